@@ -57,7 +57,7 @@ offer_good : (n : ℕ) (ops : List TextOp) (o : TextOp) (e : Microprogram) (line
     (r : Microprogram) (x : Outcome) → op_named ops e.name ≡ Some o
     → IsOfferOf n o e line r x → IsAsGood n ops e r
 offer_good n ops o e line r outcome.NoOp named is = absurd is
-offer_good n ops o e line r (outcome.Stuck walk) named is = stays n ops e r is.0
+offer_good n ops o e line r (outcome.Unproved verdict) named is = stays n ops e r is.0
 offer_good n ops o e line r outcome.NotFewer named is = stays n ops e r is.0
 offer_good n ops o e line r (outcome.Command k) named is = stays n ops e r is.0
 offer_good n ops o e line r outcome.TooLong named is = stays n ops e r is.0

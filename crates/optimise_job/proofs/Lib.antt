@@ -4,3 +4,4 @@ pub mod Named
 pub mod Found
 pub mod Pushed
 pub mod Offers
+pub mod Right

@@ -52,21 +52,23 @@ pub record IsShorter (n : ℕ) (o : TextOp) (e : Microprogram) (line : List Issu
   pub elsewhere : (m : ℕ) → 0 < m → m ≤ WIDTH_MAX → m ≢ n → IssuesSame e r m
 
 -- The outcome is true of the line that is offered for e, an entry with an op, and r, what became of
--- it: e itself unless the line was taken
+-- it: e itself unless the line was taken. An entry is left alone unless it is known that it does its
+-- op at the width
 abbrev pub IsOfferOf : ℕ → TextOp → Microprogram → List Issued → Microprogram → Outcome → Type 0
 IsOfferOf n o e line r outcome.NoOp = ⊥
-IsOfferOf n o e line r (outcome.Stuck walk) =
-    (r ≡ e) × (walked (trace e.shape e.code n) ≡ Err walk)
-IsOfferOf n o e line r outcome.NotFewer = (r ≡ e) × ((before : Counts)
+IsOfferOf n o e line r (outcome.Unproved verdict) =
+    (r ≡ e) × IsNotRight verdict × IsVerdict n e o verdict
+IsOfferOf n o e line r outcome.NotFewer = (r ≡ e) × DoesAt n e o × ((before : Counts)
     → walked (trace e.shape e.code n) ≡ Ok before
     → commands before ≤ commands (counts_of (issues line)))
 IsOfferOf n o e line r (outcome.Command k) =
-    (r ≡ e) × (first_unnamed e.shape n line ≡ Some k)
+    (r ≡ e) × DoesAt n e o × (first_unnamed e.shape n line ≡ Some k)
 IsOfferOf n o e line r outcome.TooLong =
-    (r ≡ e) × (2 ^ 16 ≤ line_room (issues line) + 11 + length e.code)
-IsOfferOf n o e line r (outcome.LongWalk m) = (r ≡ e) × (0 < m) × (m ≤ WIDTH_MAX) × (m ≢ n)
-    × HasEnded (trace e.shape e.code m) × (HasEnded (trace_less (test_steps n m) e m) → ⊥)
-IsOfferOf n o e line r (outcome.Said verdict) = (r ≡ e) × IsNotRight verdict
+    (r ≡ e) × DoesAt n e o × (2 ^ 16 ≤ line_room (issues line) + 11 + length e.code)
+IsOfferOf n o e line r (outcome.LongWalk m) = (r ≡ e) × DoesAt n e o × (0 < m) × (m ≤ WIDTH_MAX)
+    × (m ≢ n) × HasEnded (trace e.shape e.code m)
+    × (HasEnded (trace_less (test_steps n m) e m) → ⊥)
+IsOfferOf n o e line r (outcome.Said verdict) = (r ≡ e) × DoesAt n e o × IsNotRight verdict
     × ((made : Microprogram) × IsForWidth n (issues line) e made × IsVerdict n made o verdict)
 IsOfferOf n o e line r (outcome.Taken before after) =
     IsShorter n o e (issues line) r before after

@@ -7,7 +7,7 @@ ghost use Rattle.uprog_code.specs.Programs.{IsProgram};
 ghost use Rattle.uprog_code.specs.Texts.{ImplementsAll, TextOp};
 ghost use Rattle.optimise_job.specs.declared.offer.Outcome.{Outcome};
 ghost use Rattle.optimise_job.specs.Outcomes.{AreOutcomes};
-ghost use Rattle.optimise_job.specs.Promise.{AreAsGood};
+ghost use Rattle.optimise_job.specs.Promise.{AreAsGood, AreRightIfKnown};
 
 use bit_rows::WIDTH_MAX;
 
@@ -17,6 +17,14 @@ pub fn optimised_are_as_good()
     ensures { (n : ℕ) (ops : List TextOp) (es : List Microprogram) (lines : List (List Issued))
         (rs : List Microprogram) (outcomes : List Outcome)
         → AreOutcomes n ops es lines rs outcomes → AreAsGood n ops es rs }
+{}
+
+/// Shows that at this width each entry does the op of its name, unless it is not known that the old
+/// one did.
+pub fn optimised_are_right()
+    ensures { (n : ℕ) (ops : List TextOp) (es : List Microprogram) (lines : List (List Issued))
+        (rs : List Microprogram) (outcomes : List Outcome) → AreOutcomes n ops es lines rs outcomes
+        → AreRightIfKnown n ops rs outcomes }
 {}
 
 /// Shows that where the program implemented the ops at all widths, it still does.

@@ -7,6 +7,6 @@ mod laws;
 mod offer;
 mod program;
 
-pub use laws::{optimised_are_as_good, optimised_implement};
+pub use laws::{optimised_are_as_good, optimised_are_right, optimised_implement};
 pub use offer::{Offered, Outcome, with_line};
 pub use program::{Optimised, with_lines};

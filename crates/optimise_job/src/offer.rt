@@ -8,14 +8,14 @@ ghost use Rattle.uprog_code.specs.Count.{walked};
 ghost use Rattle.uprog_code.specs.Legal.{IsLegalCode};
 ghost use Rattle.uprog_code.specs.Texts.{EntryDoes, TextOp};
 ghost use Rattle.width_entry.specs.Lines.{issues};
-ghost use Rattle.verify_core.specs.Verdicts.{IsVerdict};
+ghost use Rattle.verify_core.specs.Verdicts.{DoesAt, IsVerdict};
 ghost use Rattle.optimise_job.specs.Outcomes.{HasShortLine, IsOfferOf, commands};
 
 use crate::copied::copied;
 use bit_rows::WIDTH_MAX;
 use faults::NoMemory;
 use std::alloc::Global;
-use uprog_code::{BadWalk, Counts, EntryCode, Fetch, Issued, WALK_MAX, walk};
+use uprog_code::{Counts, EntryCode, Fetch, Issued, WALK_MAX, walk};
 use verify_core::{Verdict, fresh_diagram, verify_entry};
 use width_entry::{NotMade, for_width};
 
@@ -24,8 +24,8 @@ use width_entry::{NotMade, for_width};
 pub enum Outcome {
     /// No op has its name.
     NoOp,
-    /// Its walk is stuck at the width.
-    Stuck(BadWalk),
+    /// This is said of the entry, and not that it is right.
+    Unproved(Verdict),
     /// The line has no fewer commands.
     NotFewer,
     /// The entry's code cannot issue the command at this place of the line.
@@ -75,12 +75,12 @@ fn ends<F: Fetch>(entry: &F, n: u8) -> bool
 }
 
 /// The row commands of an entry whose walk ends.
-fn counts_of(entry: &EntryCode, n: u8) -> Counts
-    requires legal { IsLegalCode (shape_of entry.now.head) entry.now.code.items }
+fn counts_of<F: Fetch>(entry: &F, n: u8) -> Counts
+    requires legal { IsLegalCode (F.shape entry.now) (F.code entry.now) }
     requires some { 0 < n }
     requires narrow { n ≤ WIDTH_MAX }
-    requires ends { HasEnded (trace (shape_of entry.now.head) entry.now.code.items n) }
-    ensures counts { walked (trace (shape_of entry.now.head) entry.now.code.items n) ≡ Ok result }
+    requires ends { HasEnded (trace (F.shape entry.now) (F.code entry.now) n) }
+    ensures counts { walked (trace (F.shape entry.now) (F.code entry.now) n) ≡ Ok result }
     ensures few { result.aap + result.ap ≤ WALK_MAX }
 {
     match walk(entry, n) {
@@ -111,14 +111,23 @@ fn long_walk<F: Fetch>(entry: &F, with_line: &EntryCode, n: u8) -> Option<u8>
 }
 
 /// What is said of an entry at a width, by one that does the op.
-fn said(own: &EntryCode, made: &EntryCode, n: u8, alloc: Global) -> Result<Verdict, NoMemory>
-    requires own_legal { IsLegalCode (shape_of own.now.head) own.now.code.items }
+pub(crate) fn said<F: Fetch>(
+    own: &F,
+    made: &EntryCode,
+    n: u8,
+    alloc: Global,
+) -> Result<Verdict, NoMemory>
+    requires own_legal { IsLegalCode (F.shape own.now) (F.code own.now) }
     requires made_legal { IsLegalCode (shape_of made.now.head) made.now.code.items }
     requires some { 0 < n }
     requires narrow { n ≤ WIDTH_MAX }
-    requires ends { HasEnded (trace (shape_of made.now.head) made.now.code.items n) }
+    requires does { (o : TextOp) × EntryDoes (microprogram_of made.now) o }
     ensures { IfOk result (λ v. (o : TextOp) → EntryDoes (microprogram_of made.now) o
-        → IsVerdict n (microprogram_of own.now) o v) }
+        → IsVerdict n (record {
+          name = F.name own.now;
+          shape = F.shape own.now;
+          code = F.code own.now;
+        }) o v) }
 {
     let mut diagram = fresh_diagram(own, made, n, alloc)?;
     verify_entry(own, made, n, &mut diagram, alloc)
@@ -132,9 +141,10 @@ struct Shortened {
     after: Counts,
 }
 
-/// The entry with the line, where that has fewer commands.
+/// The entry with the line, where that has fewer commands than the entry's own.
 fn shortened_entry<F: Fetch>(
     entry: &F,
+    before: Counts,
     n: u8,
     line: &[Issued],
     alloc: Global,
@@ -142,6 +152,8 @@ fn shortened_entry<F: Fetch>(
     requires legal { IsLegalCode (F.shape entry.now) (F.code entry.now) }
     requires some { 0 < n }
     requires narrow { n ≤ WIDTH_MAX }
+    requires before { walked (trace (F.shape entry.now) (F.code entry.now) n) ≡ Ok before }
+    requires few { before.aap + before.ap ≤ WALK_MAX }
     ensures fewer { IfOk result (λ x. HasShortLine n (issues line.now) (record {
       name = F.name entry.now;
       shape = F.shape entry.now;
@@ -153,12 +165,8 @@ fn shortened_entry<F: Fetch>(
           name = F.name entry.now;
           shape = F.shape entry.now;
           code = F.code entry.now;
-        } in IsOfferOf n o e line.now e outcome }
+        } in DoesAt n e o → IsOfferOf n o e line.now e outcome }
 {
-    let before = match walk(entry, n) {
-        Ok(before) => before,
-        Err(stuck) => return Err(Refusal::Left(Outcome::Stuck(stuck))),
-    };
     let entry = match for_width(entry, n, line, alloc) {
         Ok(entry) => entry,
         Err(NotMade::NoMemory) => return Err(Refusal::NoMemory),
@@ -177,7 +185,7 @@ fn shortened_entry<F: Fetch>(
     }
 }
 
-/// The entry with the line, where it proves right and shorter.
+/// The entry with the line, where the entry is right, and with the line right and shorter.
 fn taken<F: Fetch>(
     entry: &F,
     made: &EntryCode,
@@ -189,7 +197,7 @@ fn taken<F: Fetch>(
     requires made_legal { IsLegalCode (shape_of made.now.head) made.now.code.items }
     requires some { 0 < n }
     requires narrow { n ≤ WIDTH_MAX }
-    requires ends { HasEnded (trace (shape_of made.now.head) made.now.code.items n) }
+    requires does { (o : TextOp) × EntryDoes (microprogram_of made.now) o }
     ensures taken { IfOk result (λ x. (o : TextOp) → EntryDoes (microprogram_of made.now) o
         → IsOfferOf n o (record {
           name = F.name entry.now;
@@ -204,7 +212,12 @@ fn taken<F: Fetch>(
           code = F.code entry.now;
         } in IsOfferOf n o e line.now e outcome }
 {
-    let found = shortened_entry(entry, n, line, alloc)?;
+    let before = match said(entry, made, n, alloc) {
+        Ok(Verdict::Right(_)) => counts_of(entry, n),
+        Ok(verdict) => return Err(Refusal::Left(Outcome::Unproved(verdict))),
+        Err(NoMemory) => return Err(Refusal::NoMemory),
+    };
+    let found = shortened_entry(entry, before, n, line, alloc)?;
     if let Some(m) = long_walk(entry, &found.entry, n) {
         return Err(Refusal::Left(Outcome::LongWalk(m)));
     }
@@ -232,7 +245,7 @@ pub fn with_line<F: Fetch>(
     requires made_legal { IsLegalCode (shape_of made.now.head) made.now.code.items }
     requires some { 0 < n }
     requires narrow { n ≤ WIDTH_MAX }
-    requires ends { HasEnded (trace (shape_of made.now.head) made.now.code.items n) }
+    requires does { (o : TextOp) × EntryDoes (microprogram_of made.now) o }
     ensures offer { IfOk result (λ x. (o : TextOp) → EntryDoes (microprogram_of made.now) o
         → IsOfferOf n o (record {
           name = F.name entry.now;
