@@ -1,6 +1,6 @@
 //! Tests of public calls: the decode table, folders and sinks, commands on the rows of a chip,
 //! objects in its banks, microprograms, their files and their runs on the rows of a bank, waves,
-//! and bodies of row commands.
+//! bodies of row commands, and the search for fewer commands.
 #![tactic(auto)]
 
 #[cfg(test)]
@@ -21,6 +21,8 @@ mod object_tests;
 mod program_tests;
 #[cfg(test)]
 mod rows;
+#[cfg(test)]
+mod shorten_tests;
 #[cfg(test)]
 mod table_tests;
 #[cfg(test)]
