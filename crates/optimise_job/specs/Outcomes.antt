@@ -35,8 +35,8 @@ IsNotRight (Stuck walk) = Unit {0}
 IsNotRight OtherKinds = Unit {0}
 IsNotRight (Unknown limit) = Unit {0}
 
--- r issues the line at width n, fewer commands than e issues there, and is e at all other widths but
--- for the budget of a walk
+-- r issues the line at width n, fewer commands than e issues there, and is e at all other widths
+-- but for the budget of a walk
 pub record HasShortLine (n : ℕ) (line : List Issue) (e r : Microprogram) (before after : Counts)
     : Type 0 where
   pub made : IsForWidth n line e r
@@ -51,9 +51,9 @@ pub record IsShorter (n : ℕ) (o : TextOp) (e : Microprogram) (line : List Issu
   pub does : DoesAt n r o
   pub elsewhere : (m : ℕ) → 0 < m → m ≤ WIDTH_MAX → m ≢ n → IssuesSame e r m
 
--- The outcome is true of the line that is offered for e, an entry with an op, and r, what became of
--- it: e itself unless the line was taken. An entry is left alone unless it is known that it does its
--- op at the width
+-- The outcome is true of the line that is offered for e, an entry with an op, and r, what became
+-- of it: e itself unless the line was taken. An entry is left alone unless it is known that it does
+-- its op at the width
 abbrev pub IsOfferOf : ℕ → TextOp → Microprogram → List Issued → Microprogram → Outcome → Type 0
 IsOfferOf n o e line r outcome.NoOp = ⊥
 IsOfferOf n o e line r (outcome.Unproved verdict) =

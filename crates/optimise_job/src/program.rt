@@ -25,7 +25,8 @@ pub struct Optimised {
 
 /// The place of the entry of this name.
 pub(crate) fn place_of(entries: &[EntryCode], name: &Name) -> Option<usize>
-    ensures value { result ≡ position (λ (e : EntryCode). bytes_eq e.head.name name.now) entries.now }
+    ensures value { result
+        ≡ position (λ (e : EntryCode). bytes_eq e.head.name name.now) entries.now }
     ensures within { IfSome result (λ k. k < length entries.now) }
 {
     entries.iter().position(|e| e.head.name.bytes() == name.bytes())

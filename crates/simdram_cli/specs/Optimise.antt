@@ -51,10 +51,10 @@ optimise_plan names = Loads names.ops.now OPS_MAX ops_in (λ ops_text u.
     (λ made. made_plan names made))))
 
 -- NEW is the version 2 file of a program with the entries of PROG's, in order. At each width but N
--- each issues what PROG's issues; at N it takes no more commands, and does the op of its name in OPS
--- unless it was told that it is not known whether PROG's did. Where PROG's program implements the ops
--- at all widths, so does NEW's. All other files are as at entry, and what became of each entry was
--- sent
+-- each issues what PROG's issues; at N it takes no more commands, and does the op of its name in
+-- OPS unless it was told that it is not known whether PROG's did. Where PROG's program implements
+-- the ops at all widths, so does NEW's. All other files are as at entry, and what became of each
+-- entry was sent
 pub record Optimised (names : OptimiseNames) (before after : Files) (old new : World) : Type 0 where
   pub ops : List Operation
   pub program : Program

@@ -141,8 +141,8 @@ pub struct VerifyNames<'a> {
     pub widths: Widths,
 }
 
-/// The files of `optimise`, its width, where its generator begins, and how many changes it tries for
-/// each command.
+/// The files of `optimise`, its width, where its generator begins, and how many changes it tries
+/// for each command.
 #[derive(Clone, Copy)]
 pub struct OptimiseNames<'a> {
     pub ops: &'a str,
