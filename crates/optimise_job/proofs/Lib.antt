@@ -5,3 +5,4 @@ pub mod Found
 pub mod Pushed
 pub mod Offers
 pub mod Right
+pub mod Sizes
