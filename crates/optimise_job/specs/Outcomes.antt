@@ -80,8 +80,8 @@ IsOfferOf n room o e line r (outcome.Taken before after) =
     IsShorter n room o e (issues line) r before after
 
 -- the same of an entry that may have no op of its name
-abbrev pub IsOutcomeOf : (n room : ℕ) → Option TextOp → Microprogram → List Issued → Microprogram
-    → Outcome → Type 0
+abbrev pub IsOutcomeOf : (n room : ℕ) → Option TextOp → Microprogram → List Issued
+    → Microprogram → Outcome → Type 0
 IsOutcomeOf n room None e line r x = (r ≡ e) × (x ≡ outcome.NoOp)
 IsOutcomeOf n room (Some o) e line r x = IsOfferOf n room o e line r x
 
