@@ -1,5 +1,5 @@
 -- The compiler's entry of a name, and the op that it does.
-use Rattle.std.proofs.Common.{◌≡◌, ℕ, zero, suc, ◌<◌, ◌≤◌, Bool, true, false, cond, List, [], ◌∷◌}
+use Rattle.std.proofs.Common.{◌≡◌, ℕ, zero, suc, ◌<◌, Bool, true, false, cond, List, [], ◌∷◌}
 use Rattle.std.proofs.Common.{length, map, refl, sym, ap, ◌∙◌, subst, arith, Option, Some, None}
 use Rattle.std.specs.Prelude.{bytes_eq, find, nat_lt, position, slice_get, slice_index_or}
 use Rattle.std.specs.List.{AllByRecursion, position_or_len}
@@ -16,7 +16,7 @@ use Rattle.optimise_job.specs.Outcomes.{op_named}
 find_map : {X Y : Type 0} (f : X → Y) (q : Y → Bool) (xs : List X)
     → find q (map f xs) ≡ option_map f (find (λ x. q (f x)) xs)
 find_map f q [] = refl
-find_map f q (x ∷ xs) =
+find_map {X} f q (x ∷ xs) =
     ap (cond (q (f x)) (Some (f x))) (find_map f q xs)
     ∙ sym (of_cond (q (f x)) (Some x) (find (λ y. q (f y)) xs))
   where
