@@ -71,8 +71,8 @@ IsOfferOf n room o e line r (outcome.Command k) =
 IsOfferOf n room o e line r outcome.TooLong =
     (r ≡ e) × DoesAt n e o × ((2 ^ 16 ≤ line_room (issues line) + 11 + length e.code)
     ⊎ (room < line_room (issues line) + 11))
-IsOfferOf n room o e line r (outcome.LongWalk m) = (r ≡ e) × DoesAt n e o × (0 < m) × (m ≤ WIDTH_MAX)
-    × (m ≢ n) × HasEnded (trace e.shape e.code m)
+IsOfferOf n room o e line r (outcome.LongWalk m) = (r ≡ e) × DoesAt n e o × (0 < m)
+    × (m ≤ WIDTH_MAX) × (m ≢ n) × HasEnded (trace e.shape e.code m)
     × (HasEnded (trace_less (test_steps n m) e m) → ⊥)
 IsOfferOf n room o e line r (outcome.Said verdict) = (r ≡ e) × DoesAt n e o × IsNotRight verdict
     × ((made : Microprogram) × IsForWidth n (issues line) e made × IsVerdict n made o verdict)
