@@ -1,14 +1,18 @@
 #!/usr/bin/env python3
-"""Row commands of serial blocks that are written as one would write them, beside what the reduction alone gave.
+"""Row commands of serial blocks that are written as one would write them, and the processor time of their search.
 
-Run it at the top of the repository:  python3 bench/blocks.py [--program PATH]
+Run it at the top of the repository:  python3 bench/blocks.py [--program PATH] [--beside PATH]
 It compiles each text of bench/blocks, asks `cost` at n = 8 and n = 32, and prints the commands that each position takes:
 those of the reduced graph, without the search for other graphs (`known.csv`), those now, and the fewest that are known.
+With a second program it prints the commands at n = 8 and the milliseconds of `compile` of both, side by side.
 It ends with 1 where a text takes more than the reduced graph took, or where full adders or subtractors take more than
 7n + 2 or 6n + 2: their carry stands in cells from one position to the next, and goes to its row in the end.
 """
 
+from __future__ import annotations
+
 import csv
+import dataclasses
 import pathlib
 import re
 import subprocess
@@ -21,21 +25,30 @@ import program  # noqa: E402
 
 HERE = pathlib.Path(__file__).resolve().parent
 TEXTS = HERE / "blocks"
-PROGRAM = HERE.parent / "simdram"  # until the arguments are read
 WIDTHS = (8, 32)
 CEILINGS = {"fa_": 7, "sub_": 6}
 ROW = "| {:11} | {:>5} | {:>5} | {:>7} | {:>4} | {:>5} | {:>7} | {:>5} |"
+BESIDE = "| {:11} | {:>7} | {:>7} | {:>7} | {:>7} |"
 
 
-def costs(folder, text):
-    """The commands of a text's op at each width."""
+@dataclasses.dataclass
+class Compiled:
+    """The commands of a text's op at each width, and the milliseconds of processor time that `compile` took."""
+
+    counts: list[int]
+    milliseconds: float
+
+
+def compiled(path, folder, text):
+    """What a program makes of a text."""
     prog = pathlib.Path(folder) / "prog"
-    subprocess.run([PROGRAM, "compile", text, prog], check=True, capture_output=True)
+    seconds = program.seconds_of([path, "compile", text, prog])
     counts = []
     for width in WIDTHS:
-        said = subprocess.run([PROGRAM, "cost", prog, str(width)], check=True, capture_output=True, text=True).stdout
+        said = subprocess.run([path, "cost", prog, str(width)], check=True, capture_output=True, text=True).stdout
         counts.append(sum(int(count) for count in re.findall(r"\b(?:aap|ap)=(\d+)", said)))
-    return counts
+    prog.unlink()
+    return Compiled(counts, 1000 * seconds)
 
 
 def a_position(counts):
@@ -51,19 +64,30 @@ def is_more(name, now, before):
     )
 
 
-def main():
-    """Prints the table; the status."""
-    global PROGRAM
-    PROGRAM = program.path_of(program.parser(__doc__).parse_args())
-    rows = list(csv.DictReader((TEXTS / "known.csv").read_text(encoding="utf-8").splitlines()))
-    sums, status = [0, 0, 0], 0
+def compare(paths, rows):
+    """Prints commands and time of two programs."""
+    print(BESIDE.format("block", "n8", "n8", "ms", "ms"))
+    sums = [0, 0, 0, 0]
+    with tempfile.TemporaryDirectory() as folder:
+        for row in rows:
+            both = [compiled(path, folder, TEXTS / f"{row['op']}.ops") for path in paths]
+            shown = [made.counts[0] for made in both] + [round(made.milliseconds) for made in both]
+            sums = [a + b for a, b in zip(sums, shown)]
+            print(BESIDE.format(row["op"], *shown))
+    print(BESIDE.format("all", *sums))
+
+
+def show(path, rows):
+    """Prints the table of one program; the status."""
+    sums, milliseconds, status = [0, 0, 0], 0.0, 0
     print(ROW.format("block", "nodes", "least", "reduced", "now", "least", "n8 now", "n32"))
     with tempfile.TemporaryDirectory() as folder:
         for row in rows:
             name = row["op"]
             before = [int(row["n8_reduced"]), int(row["n32_reduced"])]
             least = [int(row["n8_least"]), int(row["n32_least"])]
-            now = costs(folder, TEXTS / f"{name}.ops")
+            made = compiled(path, folder, TEXTS / f"{name}.ops")
+            now, milliseconds = made.counts, milliseconds + made.milliseconds
             if is_more(name, now, before):
                 status = 1
                 print(f"{name}: more than it may take", file=sys.stderr)
@@ -71,7 +95,21 @@ def main():
             shown = [a_position(counts) for counts in (before, now, least)]
             print(ROW.format(name, row["nodes_reduced"], row["nodes_least"], *shown, *now))
     print(f"at n = {WIDTHS[0]} all together: {sums[0]} reduced, {sums[1]} now, {sums[2]} the fewest that are known")
+    print(f"`compile` took {milliseconds / 1000:.2f} s of processor time")
     return status
+
+
+def main():
+    """Prints the table; the status."""
+    parser = program.parser(__doc__)
+    parser.add_argument("--beside", type=pathlib.Path, help="a second program, whose commands and time are printed beside")
+    asked = parser.parse_args()
+    rows = list(csv.DictReader((TEXTS / "known.csv").read_text(encoding="utf-8").splitlines()))
+    first = program.path_of(asked)
+    if asked.beside:
+        compare([first, asked.beside.resolve()], rows)
+        return 0
+    return show(first, rows)
 
 
 if __name__ == "__main__":

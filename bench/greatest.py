@@ -1,8 +1,10 @@
 #!/usr/bin/env python3
-"""How long the greatest operation text takes to compile: 32 ops, each of 16 blocks of weight 24.
+"""How long the greatest operation texts take to compile.
 
-Run it at the top of the repository:  python3 bench/greatest.py [--program PATH] [SEED]
-The blocks are drawn, each for itself, so that few have the same graph.
+Run it at the top of the repository:  python3 bench/greatest.py [--program PATH] [--beside PATH] [SEED]
+Three texts of blocks of weight 24 are drawn, each block for itself, so that few have the same graph: 32 ops, each of 16
+blocks; 32 ops, each of nine blocks of the kind that takes the longest, of 11 words, one state and two assignments; and one
+such block alone. With a second program its time stands beside.
 """
 
 from __future__ import annotations
@@ -10,8 +12,6 @@ from __future__ import annotations
 import itertools
 import pathlib
 import random
-import resource
-import subprocess
 import sys
 import tempfile
 import typing
@@ -21,6 +21,7 @@ sys.dont_write_bytecode = True
 import program  # noqa: E402
 
 OPS, BLOCKS, WEIGHT, MOST_BYTES = 32, 16, 24, 65_536
+WORST_BLOCKS, GATES = 9, ("and", "or", "maj")
 LETTERS = "efghijklmnopqrstuvwxzABCDEFGHIJKLMNOPQRSTUVWXYZ"
 Names = typing.Iterator[str]
 
@@ -76,21 +77,55 @@ def op(draw: random.Random, number: int) -> str:
     return "\n".join([f"op o{number}(a:word,b:word,c:word,d:word)->y:word{{", *blocks, "}\n"])
 
 
+def evenly(draw: random.Random, known: list[str], weight: int) -> str:
+    """Gates of this weight over the names, each with about as many below each argument."""
+    if weight == 0:
+        return draw.choice(known)
+    gate = draw.choice(GATES)
+    parts = [0] * (3 if gate == "maj" else 2)
+    for _ in range(weight - 1):
+        parts[draw.randrange(len(parts))] += 1
+    return f"{gate}({','.join(evenly(draw, known, part) for part in parts)})"
+
+
+def worst_op(draw: random.Random, number: int, blocks: int) -> str:
+    """An op whose blocks read 11 words and have one state."""
+    words = list("abcd") + list("efghijk")
+    lines = [f"{word}=xor({words[k]},{words[k + 1]});" for k, word in enumerate(words[4:])]
+    for k in range(blocks):
+        target, state = "y" if k == blocks - 1 else f"t{k}", f"s{k}"
+        values = [evenly(draw, words + [state, state], WEIGHT // 2) for _ in range(2)]
+        lines.append(f"serial up({state}=0){{{target}={values[0]};{state}={values[1]};}}")
+    return "\n".join([f"op o{number}(a:word,b:word,c:word,d:word)->y:word{{", *lines, "}\n"])
+
+
+def texts(seed: int) -> dict[str, str]:
+    """The texts by what they are."""
+    draw, drawn = random.Random(seed), random.Random(seed)
+    return {
+        f"{OPS * BLOCKS} blocks": "".join(op(draw, number) for number in range(OPS)),
+        f"{OPS * WORST_BLOCKS} blocks of 11 words": "".join(worst_op(drawn, number, WORST_BLOCKS) for number in range(OPS)),
+        "one block of 11 words": worst_op(random.Random(seed), 0, 1),
+    }
+
+
 def main() -> int:
-    """Prints the processor time of `compile`; its status."""
+    """Prints the processor time of `compile` for each text."""
     parser = program.parser(__doc__)
+    parser.add_argument("--beside", type=pathlib.Path, help="a second program, whose time is printed beside")
     parser.add_argument("seed", metavar="SEED", type=int, nargs="?", default=1)
     asked = parser.parse_args()
-    path_of_program, draw = program.path_of(asked), random.Random(asked.seed)
-    text = "".join(op(draw, number) for number in range(OPS))
-    assert len(text) <= MOST_BYTES
+    paths = [program.path_of(asked), *([asked.beside.resolve()] if asked.beside else [])]
     with tempfile.TemporaryDirectory() as folder:
-        path = pathlib.Path(folder) / "ops"
-        path.write_text(text, encoding="utf-8")
-        status = subprocess.run([path_of_program, "compile", path, pathlib.Path(folder) / "prog"], check=False).returncode
-    used = resource.getrusage(resource.RUSAGE_CHILDREN)
-    print(f"{len(text)} bytes, {OPS * BLOCKS} blocks: {used.ru_utime + used.ru_stime:.2f} s")
-    return status
+        for name, text in texts(asked.seed).items():
+            assert len(text) <= MOST_BYTES
+            path = pathlib.Path(folder) / "ops"
+            path.write_text(text, encoding="utf-8")
+            seconds = [program.seconds_of([it, "compile", path, path.with_name(f"prog{k}")]) for k, it in enumerate(paths)]
+            print(f"{name}, {len(text)} bytes: {', '.join(f'{each:.2f}' for each in seconds)} s", flush=True)
+            for prog in path.parent.glob("prog*"):
+                prog.unlink()
+    return 0
 
 
 if __name__ == "__main__":

@@ -2,6 +2,7 @@
 
 import argparse
 import pathlib
+import resource
 import subprocess
 
 TOP = pathlib.Path(__file__).resolve().parent.parent
@@ -22,3 +23,11 @@ def path_of(asked, *flags):
     if ended.returncode:
         raise SystemExit(ended.returncode)
     return pathlib.Path(ended.stdout.strip())
+
+
+def seconds_of(command):
+    """The processor time that a command takes; it must succeed."""
+    before = resource.getrusage(resource.RUSAGE_CHILDREN)
+    subprocess.run(command, check=True, capture_output=True)
+    after = resource.getrusage(resource.RUSAGE_CHILDREN)
+    return after.ru_utime + after.ru_stime - before.ru_utime - before.ru_stime

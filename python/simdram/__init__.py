@@ -3,8 +3,6 @@
 The names of the front are looked up when they are used, so that the command and the file modules need no NumPy.
 """
 
-from __future__ import annotations
-
 import importlib
 
 _FRONT = {

@@ -1,7 +1,5 @@
 """The command `simdram`: help, the tools, and the program's commands."""
 
-from __future__ import annotations
-
 import errno
 import importlib
 import signal

@@ -6,11 +6,9 @@ import unittest
 from support import needs_numpy, numpy
 
 if numpy is not None:
-    from simdram.arrays.blocks import BLOCKS
-    from simdram.arrays.constant_folding import folded
     from simdram.arrays.expressions import Constant, Held, Result, Value, in_order, step
     from simdram.arrays.layout import Layout, Product, Slice, bits_of, extended, joined, moved_down, moved_up, product_of
-    from simdram.arrays.operations import BIT, OPERATIONS, WORD
+    from simdram.arrays.operations import BIT, BLOCKS, OPERATIONS, WORD
     from simdram.arrays.simplify import simplified
 
 
@@ -25,7 +23,7 @@ def values_of(targets, held):
 
     for one in in_order(targets):
         given = [(of(value), value.bits) for value in one.arguments]
-        found = laid_out(one.operation, given) if isinstance(one.operation, Layout) else folded(one.operation.name, one.width or 1, list(zip(*given))[0])
+        found = laid_out(one.operation, given) if isinstance(one.operation, Layout) else one.operation.folded(one.width or 1, list(zip(*given))[0])
         known.update((id(value), number % (1 << value.bits)) for value, number in zip(one.results, found))
     return [of(target) for target in targets]
 

@@ -10,7 +10,6 @@ from support import needs_numpy, needs_program, numpy
 import simdram
 
 if numpy is not None:
-    from simdram.arrays.constant_folding import VALUES, folded
     from simdram.arrays.operations import OPERATIONS
     from simdram.arrays.products import COMMANDS, digits_of
 
@@ -172,7 +171,7 @@ class Folding(Beside):
                       for column, kind in zip(zip(*given), operation.takes)]
             found = simdram.apply(name, *arrays)
             for place, result in enumerate(found if isinstance(found, tuple) else (found,)):
-                expected = [folded(name, bits, numbers)[place] % (1 << result.bits) for numbers in given]
+                expected = [operation.folded(bits, numbers)[place] % (1 << result.bits) for numbers in given]
                 self.assertEqual(result.numpy().astype(int).tolist(), expected, name)
 
     def test_digits(self):
@@ -193,9 +192,6 @@ class Folding(Beside):
             for name, op in ops.items():
                 self.assertEqual(commands(simdram.op(op)(a, b)), COMMANDS[name](bits), (name, bits))
             self.assertLessEqual(commands(-a), COMMANDS["negative"](bits))
-
-    def test_all_operations_are_known(self):
-        self.assertLessEqual(set(OPERATIONS), set(VALUES))
 
 
 if __name__ == "__main__":

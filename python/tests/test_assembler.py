@@ -12,7 +12,7 @@ from test_profile import every_op
 from test_tools import Folder
 from test_words import called
 
-from simdram.assembler import TextFault, assemble
+from simdram.assembler import Breach, assemble
 from simdram.assembler.forms import Form
 from simdram.assembler.one_width import one_width, other_width
 from simdram.assembler.reading import raw_text, readable_text
@@ -172,7 +172,7 @@ class Structured(unittest.TestCase):
 
 class Faults(unittest.TestCase):
     def fault(self, body, head=HEAD):
-        with self.assertRaises(TextFault) as raised:
+        with self.assertRaises(Breach) as raised:
             assemble((head + body).encode())
         data = (head + body).encode()
         answer = raised.exception.answer("f", data)

@@ -68,6 +68,11 @@ QUERIES = (
     ("ge(10, a)", "syntax", "line 1 column 4", "10", "the name comes first"),
     ("ne(a, 1)", "syntax", "line 1 column 1", "ne", "eq, gt, ge, lt, le"),
     ("eq(a, b)", "syntax", "line 1 column 7", "b", "with a number"),
+    ("eq(a[8:4], 1)", "bad_number", "line 1 column 8", "4", "LO is below HI"),
+    ("eq(a[128(", "bad_number", "line 1 column 6", "128", "0 to 127"),
+    ("eq(a[0:129], 1)", "bad_number", "line 1 column 8", "129", "at most 128"),
+    ("eq(a[b], 1)", "syntax", "line 1 column 6", "b", "NAME[LO:HI]"),
+    ("eq(a[4, 1)", "syntax", "line 1 column 7", ",", "allowed here: `]`"),
     ("eq(a, 1) eq(b, 2)", "syntax", "line 1 column 10", "eq", "combine two with"),
     ("not(eq(a, 1)", "syntax", "line 1 column 13", "", "the end of the text"),
 )
@@ -241,7 +246,8 @@ class Refusals(unittest.TestCase):
     def test_queries(self):
         table = Table(1, 64, 1, [Object("category", 8, 0, 4), Object("b", 8, 8, 3)])
         for query, kind, said in (("eq(categry, 1)", "no_object 0", "did you mean category"), ("and(eq(category, 1), eq(b, 1))", "count 1", "3 elements"),
-                                  ("eq(category, 256)", "range 0", "0 to 255")):
+                                  ("eq(category, 256)", "range 0", "0 to 255"), ("eq(category[4:9], 16)", "slice 0", "highest bit of category is 7"),
+                                  ("eq(category[4:8], 16)", "range 0", "0 to 15"), ("and(eq(category, 1), eq(b[7:9], 1))", "slice 1", "has bit 8")):
             answer = query_refusals("file", query.encode(), table)[0]
             self.assertEqual(answer.kind, f"query refused {kind}")
             self.assertIn(said, " ".join(answer.lines()))

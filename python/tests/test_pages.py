@@ -181,6 +181,18 @@ class ExamplesPage(unittest.TestCase):
         self.assertGreater(checked, 5)
 
 
+class Kernels(unittest.TestCase):
+    """The table of simplified ops in docs/LANGUAGE.md has what examples/kernels prints."""
+
+    def test_the_table(self):
+        printed = dict(re.findall(r"^(\w+) n=4 .*?, (n=8 .*);", page("examples/kernels/expected"), re.MULTILINE))
+        rows = re.findall(r"^\| `(\w+)`: [^|]* \| (\d+), (\d+) \| (\d+), (\d+) \| (\d+), (\d+) \|$", page("docs/LANGUAGE.md"), re.MULTILINE)
+        self.assertEqual([row[0] for row in rows], list(printed))
+        for name, *numbers in rows:
+            at = {n: found for n, *found in re.findall(r"n=(\d+) (\d+) -> (\d+) rows (\d+) -> (\d+)", printed[name])}
+            self.assertEqual([at["8"][0], at["32"][0], at["8"][1], at["32"][1], *at["8"][2:]], numbers, name)
+
+
 @needs_program
 class Shown(unittest.TestCase):
     """Every shell line that the README shows prints what stands below it."""

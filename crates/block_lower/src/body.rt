@@ -11,6 +11,7 @@ ghost use Rattle.block_lower.specs.Form.{constant, IsBlockBody};
 use crate::choice::{Least, least_graph};
 use crate::inputs::inputs_of;
 use crate::places::{places_of, target_places};
+use crate::searched::Searched;
 use aoi_graph::build;
 use faults::keep;
 use loop_ir::{Body, NameMap, Place};
@@ -44,12 +45,13 @@ pub(crate) fn constant(value: bool, place: Place, alloc: Global) -> Result<Body,
     })
 }
 
-/// The body of a block at a position, with its states in rows, and other graphs that may be right
-/// for it.
+/// The body of a block at a position, with its states in rows, other graphs that may be right for
+/// it, and its number in the record of what was searched.
 #[derive(Drop)]
 pub struct BlockBody {
     pub body: Body,
     pub(crate) offers: Vec<Sketch>,
+    pub(crate) number: usize,
 }
 
 /// The body that does the chosen graph at these places.
@@ -62,9 +64,17 @@ fn body_at(least: Least, reads: Vec<Place>, writes: Vec<Place>) -> BlockBody
       found = least.choice.found.items;
     } }
 {
-    let Least { choice, offers } = least;
+    let Least {
+        choice,
+        offers,
+        number,
+    } = least;
     let body = choice.into_body(reads, writes);
-    BlockBody { body, offers }
+    BlockBody {
+        body,
+        offers,
+        number,
+    }
 }
 
 /// The body of a block at a position, whatever its states are, with the commands found for it.
@@ -73,6 +83,7 @@ pub fn block_body(
     lets: &[Assign],
     assigns: &[Assign],
     names: &NameMap,
+    searched: &mut Searched,
     alloc: Global,
 ) -> Result<BlockBody, NoMemory>
     requires meets { (states : List State) × BlockMeets (slots_of names.now)
@@ -88,7 +99,7 @@ pub fn block_body(
     let reads = places_of(names, down, &inputs.order, alloc)?;
     let writes = target_places(names, down, assigns, alloc)?;
     let graph = reduce(from_aoi(&gates, alloc)?, alloc)?;
-    let least = least_graph(graph, &reads, &writes, alloc)?;
+    let least = least_graph(graph, &reads, &writes, searched, alloc)?;
     // This call's clause says that the graph keeps the rules of graphs.
     let _ = least.choice.graph.mig.inputs();
     Ok(body_at(least, reads, writes))

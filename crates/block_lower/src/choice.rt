@@ -10,16 +10,14 @@ ghost use Rattle.block_lower.specs.Choice.{AreCounted, AreFor, AreNoFewer, HasFo
 ghost use Rattle.block_lower.specs.Choice.{IsCounted, IsDropped, IsFewest, IsNoDearer};
 ghost use Rattle.block_lower.specs.Choice.{IsRightChoice, IsUnfit, MayStand, sketch_of};
 
-use crate::rounds::{Ranked, Tried, best_first};
+use crate::rounds::{Ranked, Tried};
+use crate::searched::{Known, Searched};
 use faults::keep;
 use loop_ir::{Body, Place, out_rows};
 use mig_graph::{MigOuts, NoMemory};
-use mig_rewrite::{Sketch, kept, offers};
+use mig_rewrite::{Sketch, kept};
 use row_alloc::{BodyCmd, Search, find_body};
 use std::alloc::Global;
-
-/// How many other graphs are counted.
-const MOST_OFFERS: u8 = 96;
 
 /// A graph, and the commands that were found for its body.
 pub(crate) struct Choice {
@@ -158,12 +156,6 @@ fn fewest(first: &Choice, others: &[Choice]) -> Option<usize>
     best
 }
 
-/// How many other graphs are counted. A graph of one node has none that is better.
-fn most_offers(m: &MigOuts) -> u8 {
-    let nodes = m.mig.size().saturating_sub(m.mig.inputs() as u32 + 1);
-    if nodes < 2 { 0 } else { MOST_OFFERS }
-}
-
 /// The choice with the commands of a search that looks for fewer, where these are no more.
 fn with_fewer(
     choice: Choice,
@@ -245,11 +237,13 @@ fn chosen(
     }
 }
 
-/// The choice, and other graphs that may stand for it, the best by their bodies first.
+/// The choice, other graphs that may stand for it, the best by their bodies first, and the number
+/// of the block in the record.
 #[derive(Drop)]
 pub(crate) struct Least {
     pub choice: Choice,
     pub offers: Vec<Sketch>,
+    pub number: usize,
 }
 
 /// The reduced graph, or one of the same outputs and no more nodes whose body takes fewer commands,
@@ -258,6 +252,7 @@ pub(crate) fn least_graph(
     graph: MigOuts,
     reads: &[Place],
     writes: &[Place],
+    searched: &mut Searched,
     alloc: Global,
 ) -> Result<Least, NoMemory>
     requires named { AreNamed graph.mig graph.outs.items }
@@ -269,9 +264,17 @@ pub(crate) fn least_graph(
     ensures own { IfOk result (λ r. IsNoDearer reads.now writes.now graph.mig graph.outs.items
         (length r.choice.found.items)) }
 {
-    let offers = offers(&graph, most_offers(&graph), alloc)?;
-    let Ranked { tries, offers } = best_first(&graph, &offers, reads, writes, alloc)?;
+    let Known { number, ranked } = searched.ranked(&graph, reads, writes, alloc)?;
+    let Ranked {
+        tries,
+        offers,
+        tried: _,
+    } = ranked;
     let others = all_counted(&graph, &tries, reads, writes, alloc)?;
     let choice = chosen(graph, others, reads, writes, alloc)?;
-    Ok(Least { choice, offers })
+    Ok(Least {
+        choice,
+        offers,
+        number,
+    })
 }

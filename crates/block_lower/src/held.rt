@@ -12,10 +12,11 @@ ghost use Rattle.block_lower.specs.Held.{IsLoopFor};
 
 use crate::copied::copied;
 use crate::flow::each_last;
-use crate::held_rounds::{HeldTry, held_tries};
+use crate::held_rounds::{HeldTries, HeldTry};
 use crate::home::{
     Home, cell_place, enters, flow_places, held_places, leaves, row_count, stand_in,
 };
+use crate::searched::Searched;
 use faults::keep;
 use loop_ir::{Body, LoopProgram, Place, Step, out_rows};
 use mig_graph::{Lit, Mig, MigOuts, NoMemory};
@@ -371,6 +372,8 @@ pub(crate) fn fewer_loop(
     offers: &[Sketch],
     few: usize,
     most: usize,
+    searched: &mut Searched,
+    number: usize,
     alloc: Global,
 ) -> Result<Option<OtherLoop>, NoMemory>
     requires { AreNamed body.now.graph.mig body.now.graph.outs.items }
@@ -379,7 +382,14 @@ pub(crate) fn fewer_loop(
     ensures held { IfOk result (λ o. IfSome o (λ r. IsLoopFor place start (block_of r.body) most
         r.held)) }
 {
-    let tries = held_tries(place, start, body, offers, few, most, alloc)?;
+    let HeldTries { tries, tried: _ } = searched.held(
+        number,
+        (place, start),
+        body,
+        offers,
+        (few, most),
+        alloc,
+    )?;
     other_loop(place, start, body, &tries, most, alloc)
 }
 

@@ -3,33 +3,14 @@
 //! A race counts pairs of a graph and a layout of cells. Nothing is promised of the counts: what
 //! stands is checked again.
 
-ghost use Rattle.mig_graph.specs.Outputs.{AreNamed};
-
 use crate::held::{LAYOUTS, add_held};
 use crate::home::Home;
 use faults::keep;
 use loop_ir::{Body, Place};
 use mig_graph::NoMemory;
-use mig_rewrite::{Sketch, kept};
-use row_alloc::{BROAD, BodyCmd, Course, Race, Ranking};
+use mig_rewrite::{Sketch, graph_of};
+use row_alloc::{BodyCmd, Course, Race, Ranking};
 use std::alloc::Global;
-
-/// How many graphs run the race, with each layout.
-const GRAPHS: usize = 16;
-
-/// The race of pairs of a graph and the cells of its state.
-const IN_CELLS: Course = Course {
-    pilots: 20,
-    margin: 0,
-    first: 80,
-    last: 4,
-    states: 160,
-    least_width: 2,
-    most_width: 40,
-    share: 80,
-    finals: 3,
-    breadth: BROAD,
-};
 
 /// How many loops are tried.
 const TRIES: usize = 6;
@@ -58,23 +39,21 @@ struct Pair {
     cells: u8,
 }
 
-/// The body with another graph, without commands, if the offer is right.
-pub(crate) fn other_body(
-    body: &Body,
-    offer: &Sketch,
-    alloc: Global,
-) -> Result<Option<Body>, NoMemory>
-    requires { AreNamed body.now.graph.mig body.now.graph.outs.items }
-{
-    let Some(graph) = kept(&body.graph, offer, alloc)? else {
-        return Ok(None);
-    };
-    Ok(Some(Body {
+/// The loops that are to be tried, and how many states were tried.
+#[derive(Drop)]
+pub(crate) struct HeldTries {
+    pub tries: Vec<HeldTry>,
+    pub tried: usize,
+}
+
+/// The body with another graph, without commands.
+fn other_body(body: &Body, offer: &Sketch, alloc: Global) -> Result<Body, NoMemory> {
+    Ok(Body {
         reads: body.reads.to_vec(alloc)?,
-        graph,
+        graph: graph_of(offer, alloc)?,
         writes: body.writes.to_vec(alloc)?,
         found: Vec::new(alloc),
-    }))
+    })
 }
 
 /// The pairs of the graphs and the layouts, and the race of their bodies.
@@ -156,23 +135,25 @@ pub(crate) fn held_tries(
     start: bool,
     body: &Body,
     offers: &[Sketch],
+    course: &Course,
     few: usize,
     most: usize,
     alloc: Global,
-) -> Result<Vec<HeldTry>, NoMemory>
-    requires { AreNamed body.now.graph.mig body.now.graph.outs.items }
-{
+) -> Result<HeldTries, NoMemory> {
     if few < 2 || most == 0 || offers.is_empty() {
-        return Ok(Vec::new(alloc));
+        return Ok(HeldTries {
+            tries: Vec::new(alloc),
+            tried: 0,
+        });
     }
     let mut pairs = Pairs::new(place, start, alloc)?;
-    for sketch in offers.iter().take(GRAPHS) {
-        if let Some(other) = other_body(body, sketch, alloc)? {
-            pairs.add(*sketch, &other, alloc)?;
-        }
+    for sketch in offers {
+        let other = other_body(body, sketch, alloc)?;
+        pairs.add(*sketch, &other, alloc)?;
     }
-    let ranking = pairs
-        .race
-        .ranked(&IN_CELLS, usize::min(few, most - 1), alloc)?;
-    pairs.tries(&ranking, few, alloc)
+    let most = usize::min(few, most - 1);
+    let ranking = pairs.race.ranked(course, most, alloc)?;
+    let tries = pairs.tries(&ranking, few, alloc)?;
+    let tried = ranking.tried;
+    Ok(HeldTries { tries, tried })
 }

@@ -12,7 +12,9 @@ mod inputs;
 mod lower;
 mod places;
 mod rounds;
+mod searched;
 
 pub use body::{BlockBody, block_body};
 pub use lower::{block_loop, lower_block};
 pub use mig_graph::NoMemory;
+pub use searched::Searched;

@@ -12,6 +12,7 @@ ghost use Rattle.block_lower.specs.Form.{start, row_steps, IsChosen, IsBlockProg
 use crate::body::{BlockBody, block_body, constant};
 use crate::held::{commands_of, fewer_loop, own_loop};
 use crate::places::place_of;
+use crate::searched::Searched;
 use faults::keep;
 use loop_ir::{Body, LoopProgram, NameMap, Step};
 use mig_graph::NoMemory;
@@ -61,6 +62,8 @@ fn in_cells(
     body: &Body,
     offers: &[Sketch],
     names: &NameMap,
+    searched: &mut Searched,
+    number: usize,
     alloc: Global,
 ) -> Result<Option<LoopProgram>, NoMemory>
     requires { AreNamed body.now.graph.mig body.now.graph.outs.items }
@@ -73,7 +76,17 @@ fn in_cells(
             let most = body.found.len();
             let own = own_loop(place, state.start, body, offers.is_empty(), most, alloc)?;
             let few = commands_of(&own, most);
-            if let Some(other) = fewer_loop(place, state.start, body, offers, few, most, alloc)? {
+            if let Some(other) = fewer_loop(
+                place,
+                state.start,
+                body,
+                offers,
+                few,
+                most,
+                searched,
+                number,
+                alloc,
+            )? {
                 return other.into_program(alloc);
             }
             match own {
@@ -92,26 +105,33 @@ pub fn block_loop(
     states: &[State],
     block: BlockBody,
     names: &NameMap,
+    searched: &mut Searched,
     alloc: Global,
 ) -> Result<LoopProgram, NoMemory>
     requires { AreNamed block.body.graph.mig block.body.graph.outs.items }
     ensures { IfOk result (λ p. IsChosen (slots_of names.now) down states.now
         (block_of block.body) (steps_of p)) }
 {
-    let BlockBody { body, offers } = block;
-    match in_cells(down, states, &body, &offers, names, alloc)? {
+    let BlockBody {
+        body,
+        offers,
+        number,
+    } = block;
+    match in_cells(down, states, &body, &offers, names, searched, number, alloc)? {
         Some(program) => Ok(program),
         None => row_loop(down, states, body, names, alloc),
     }
 }
 
-/// The loop program of a serial block, whose names lie where the map says.
+/// The loop program of a serial block, whose names lie where the map says. What is searched for it
+/// is put into the record, and a block that stands there is not searched again.
 pub fn lower_block(
     down: bool,
     states: &[State],
     lets: &[Assign],
     assigns: &[Assign],
     names: &NameMap,
+    searched: &mut Searched,
     alloc: Global,
 ) -> Result<LoopProgram, NoMemory>
     requires meets { BlockMeets (slots_of names.now)
@@ -124,6 +144,6 @@ pub fn lower_block(
         names.now.free_word (Visit (block_from down states.now lets.now assigns.now))
         (steps_of p)) }
 {
-    let block = block_body(down, lets, assigns, names, alloc)?;
-    block_loop(down, states, block, names, alloc)
+    let block = block_body(down, lets, assigns, names, searched, alloc)?;
+    block_loop(down, states, block, names, searched, alloc)
 }

@@ -1,3 +1,4 @@
+pub mod Costs
 pub mod Images
 pub mod Replays
 pub mod Scans

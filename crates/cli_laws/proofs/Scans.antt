@@ -29,10 +29,11 @@ use Rattle.scan_model.specs.Answers.{by_checks, by_run, found_in, query_count}
 use Rattle.scan_model.specs.Checks.{checked}
 use Rattle.scan_model.specs.Laws.{scan_refused}
 use Rattle.scan_model.specs.Operations.{scan_operations, scan_text}
-use Rattle.scan_model.specs.Queries.{Query, nodes_of}
+use Rattle.scan_model.specs.Queries.{Query, HasParts, nodes_of}
 use Rattle.scan_model.specs.Texts.{fault_in}
 use Rattle.scan_model.proofs.Alike.{scans_answer_the_same}
 use Rattle.scan_model.proofs.Parsed.{once}
+use Rattle.scan_model.proofs.Parts.{written_parts}
 use Rattle.cli_model.specs.World.{World}
 use Rattle.cli_model.specs.Ends.{All, At, AppendsAfter, Ended, EndsSo, IsAllDone, IsForetold, Sends}
 use Rattle.cli_model.specs.Foreseen.{foreseen}
@@ -101,17 +102,21 @@ scans_cost_the_same p q x y name n l k =
 
 -- and so answer the same
 same_answer : (p q : Program) (query : Query) (i : Image) → DoesScans p → DoesScans q
-    → Each (λ named. IsObject i.geometry named.1) i.table
+    → Each (λ named. IsObject i.geometry named.1) i.table → HasParts query
     → answer_on p query i ≡ answer_on q query i
-same_answer p q query i x y objects =
+same_answer p q query i x y objects parts =
     let by : Routines → Answer = λ operations.
     answer i.geometry operations (opened i) i.table query in
     ap by (sym (same_operations p scan_text x.implements))
     ∙ scans_answer_the_same i.geometry p q (opened i) i.table query x.implements y.implements
-    (scans_cost_the_same p q x y) objects
+    (scans_cost_the_same p q x y) objects parts
     ∙ ap by (same_operations q scan_text y.implements)
 
 -- Scans that are done
+
+asked_parts : (file : Option (List ℕ)) (q : Query) → AsksIn file q → HasParts q
+asked_parts None q x = absurd x
+asked_parts (Some text) q x = written_parts q x.query.written
 
 same_query : (file : Option (List ℕ)) (p q : Query) → AsksIn file p → AsksIn file q → p ≡ q
 same_query None p q x y = absurd x
@@ -141,9 +146,10 @@ one_scanned names before a b c d s t =
     let query = same_query (before names.query.now) s.query t.query s.query_is t.query_is in
     let image : s.image ≡ t.image = one_value _ s.image t.image s.image_is t.image_is in
     let objects = image_objects (before names.image.now) s.image s.image_is in
+    let parts = asked_parts (before names.query.now) s.query s.query_is in
     let counts : scan_counts s.program s.query s.image ≡ scan_counts t.program t.query t.image =
     sym (scanned_counts names before a b s)
-    ∙ ap counts_in (same_answer s.program t.program s.query s.image s.does t.does objects)
+    ∙ ap counts_in (same_answer s.program t.program s.query s.image s.does t.does objects parts)
     ∙ ap (λ (q : Query). counts_in (answer_on t.program q s.image)) query
     ∙ ap (λ (i : Image). counts_in (answer_on t.program t.query i)) image
     ∙ scanned_counts names before c d t in
@@ -387,8 +393,9 @@ one_answered names before a b c d status other here there x y is also =
     let query = same_query (before names.query.now) s.query t.query s.query_is t.query_is in
     let image : s.image ≡ t.image = one_value _ s.image t.image s.image_is t.image_is in
     let objects = image_objects (before names.image.now) s.image s.image_is in
+    let parts = asked_parts (before names.query.now) s.query s.query_is in
     let same : answer_on s.program s.query s.image ≡ answer_on t.program t.query t.image =
-    same_answer s.program t.program s.query s.image s.does t.does objects
+    same_answer s.program t.program s.query s.image s.does t.does objects parts
     ∙ ap (λ (q : Query). answer_on t.program q s.image) query
     ∙ ap (λ (i : Image). answer_on t.program t.query i) image in
     record {

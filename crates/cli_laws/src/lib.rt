@@ -1,10 +1,16 @@
 //! What two commands of the program promise together, and what the files at entry decide.
 #![tactic(auto)]
 
+ghost use Rattle.cli_laws.specs.Costs.{CostsOfCompiled};
 ghost use Rattle.cli_laws.specs.Replays.{TracesAreAccepted, TracesReplay};
 ghost use Rattle.cli_laws.specs.Unique.{OneExecuted, OneGuardedJob, OneRecorded, OneReplayed};
 ghost use Rattle.cli_laws.specs.Unique.{OneAnswered, OneScanned, OneSoaked};
 ghost use Rattle.cli_laws.specs.Verified.{OneVerified, RightIsExecuted};
+
+/// What `cost` sends of the file that `compile` stored are the exact commands of the ops of OPS.
+pub fn costs_of_compiled()
+    ensures { CostsOfCompiled }
+{}
 
 /// A replay of what an execution recorded, on the image that it read, writes the same image.
 pub fn traces_replay()

@@ -26,9 +26,9 @@ use merges::{Merge, any_merge};
 use mig_graph::MigOuts;
 pub use mig_graph::NoMemory;
 use rebuild::remade;
-pub use search::offers;
+pub use search::{Walked, Walks, offers};
 pub use sketch::Sketch;
-pub use standing::kept;
+pub use standing::{graph_of, kept};
 use std::alloc::Global;
 
 /// The graph made again until no node more is saved: then an output reaches each node.

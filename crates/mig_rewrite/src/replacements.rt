@@ -6,10 +6,7 @@
 use crate::draws::Draws;
 use crate::forms::{Carries, Carry, Form, MOST_LEAST, carries, least_graph};
 use crate::sketch::{Sketch, has, with, with_operands};
-use crate::tables::{Table, Tables, Turned, function_of, table_of};
-use faults::keep;
-use mig_graph::NoMemory;
-use std::alloc::Global;
+use crate::tables::{NONE, Table, Tables, Turned, function_of, table_of};
 
 /// Of 100 replacements so many are least graphs of the node's function of a few leaves.
 const OF_LEAVES: usize = 10;
@@ -60,10 +57,72 @@ impl Divisor {
     }
 }
 
-/// A node, and what comes in its place.
+/// The most literals that may be operands: both of each node.
+const MOST_DIVISORS: usize = 128;
+
+/// Literals, in the order in which they were found.
+struct Divisors {
+    list: [Divisor; MOST_DIVISORS],
+    count: usize,
+}
+
+impl Drop for Divisors {
+    fn drop(self) {
+        let Divisors { list: _, count: _ } = self;
+    }
+}
+
+impl Divisors {
+    fn new() -> Divisors {
+        let none = Divisor {
+            literal: 0,
+            errors: NONE,
+        };
+        Divisors {
+            list: [none; MOST_DIVISORS],
+            count: 0,
+        }
+    }
+
+    fn clear(&mut self) {
+        self.count = 0;
+    }
+
+    #[inline(always)]
+    fn add(&mut self, divisor: Divisor) {
+        if self.count < MOST_DIVISORS {
+            self.list[self.count] = divisor;
+            self.count += 1;
+        }
+    }
+
+    /// The literal of this number.
+    #[inline(always)]
+    fn get(&self, k: usize) -> Option<Divisor> {
+        if k < self.count && k < MOST_DIVISORS {
+            Some(self.list[k])
+        } else {
+            None
+        }
+    }
+
+    /// The first from a place on that joins both, or else the first before it.
+    fn third_of(&self, start: usize, a: &Divisor, b: &Divisor) -> Option<Divisor> {
+        let all = self.list.get(..self.count)?;
+        if let Some(later) = all.get(start..)
+            && let Some(c) = first_of(later, a, b)
+        {
+            return Some(c);
+        }
+        first_of(all.get(..start)?, a, b)
+    }
+}
+
+/// A node with all above it, and what comes in its place.
 #[derive(Clone, Copy)]
 pub struct Replacement {
     pub node: u8,
+    pub above: u64,
     pub form: Form,
 }
 
@@ -73,9 +132,9 @@ pub struct Replacer {
     carries: Carries,
     turned: Turned,
     /// The literals that may be operands.
-    list: Vec<Divisor>,
+    list: Divisors,
     /// Those that may be operands of an inner node, each with where it is wrong there.
-    inside: Vec<Divisor>,
+    inside: Divisors,
 }
 
 impl Drop for Replacer {
@@ -147,13 +206,13 @@ fn form_count(carry: &Carry) -> usize {
 }
 
 impl Replacer {
-    pub fn new(alloc: Global) -> Replacer {
+    pub fn new() -> Replacer {
         Replacer {
             draws: Draws::new(0),
             carries: carries(),
             turned: Turned::new(),
-            list: Vec::new(alloc),
-            inside: Vec::new(alloc),
+            list: Divisors::new(),
+            inside: Divisors::new(),
         }
     }
 
@@ -191,22 +250,18 @@ impl Replacer {
 
     /// Adds a literal and its complement, which is wrong where it matters and the other is right,
     /// or returns the one of both that is right.
-    fn add_both(
-        &mut self,
-        literal: u8,
-        errors: Table,
-        care: &Table,
-    ) -> Result<Option<u8>, NoMemory> {
+    #[inline(always)]
+    fn add_both(&mut self, literal: u8, errors: Table, care: &Table) -> Option<u8> {
         if errors.is_zero() {
-            return Ok(Some(literal));
+            return Some(literal);
         }
-        keep(&mut self.list, Divisor { literal, errors })?;
+        self.list.add(Divisor { literal, errors });
         let (literal, errors) = (literal ^ 1, care.xor(&errors));
         if errors.is_zero() {
-            return Ok(Some(literal));
+            return Some(literal);
         }
-        keep(&mut self.list, Divisor { literal, errors })?;
-        Ok(None)
+        self.list.add(Divisor { literal, errors });
+        None
     }
 
     /// Finds the literals that are not above the node, or returns one that may stand for it alone.
@@ -215,28 +270,29 @@ impl Replacer {
         sketch: &Sketch,
         tables: &Tables,
         node: u8,
-    ) -> Result<Option<u8>, NoMemory> {
+        above: u64,
+    ) -> Option<u8> {
         self.list.clear();
-        let above = sketch.above(node);
         let care = self.turned.care_of(sketch, tables, node, above);
         let own = table_of(tables, node.saturating_mul(2));
         for other in 0..sketch.size() {
             if !has(above, other) {
                 let literal = other.saturating_mul(2);
                 let errors = table_of(tables, literal).xor(&own).and(&care);
-                if let Some(right) = self.add_both(literal, errors, &care)? {
-                    return Ok(Some(right));
+                let right = self.add_both(literal, errors, &care);
+                if right.is_some() {
+                    return right;
                 }
             }
         }
-        Ok(None)
+        None
     }
 
     /// A drawn literal.
     #[inline(always)]
     fn operand(&mut self) -> Option<Divisor> {
-        let place = self.draws.below(self.list.len());
-        self.list.get(place).copied()
+        let place = self.draws.below(self.list.count);
+        self.list.get(place)
     }
 
     /// Two drawn literals, where they are of two nodes and not wrong together.
@@ -250,8 +306,8 @@ impl Replacer {
     fn one_node(&mut self) -> Option<Form> {
         for _ in 0..TRIES {
             if let Some((a, b)) = self.pair() {
-                let start = self.draws.below(self.list.len());
-                if let Some(c) = third_of(&self.list, start, &a, &b) {
+                let start = self.draws.below(self.list.count);
+                if let Some(c) = self.list.third_of(start, &a, &b) {
                     return Some(Form::node([a.literal, b.literal, c.literal]));
                 }
             }
@@ -261,24 +317,26 @@ impl Replacer {
 
     /// Finds the literals that may be operands beside this one of an inner node, which is to be
     /// right where it matters.
-    fn find_inside(&mut self, first: &Divisor, matters: &Table) -> Result<(), NoMemory> {
+    fn find_inside(&mut self, first: &Divisor, matters: &Table) {
         self.inside.clear();
-        for divisor in &self.list {
+        for (k, divisor) in self.list.list.iter().enumerate() {
+            if k >= self.list.count {
+                return;
+            }
             let other = divisor.within(matters);
             if first.may_join(&other) {
-                keep(&mut self.inside, other)?;
+                self.inside.add(other);
             }
         }
-        Ok(())
     }
 
     /// Two of them that make an inner node.
     fn inner_pair(&mut self) -> Option<(u8, u8)> {
         for _ in 0..TRIES_INSIDE {
-            let place = self.draws.below(self.inside.len());
-            let start = self.draws.below(self.inside.len());
-            if let Some(second) = self.inside.get(place).copied()
-                && let Some(third) = third_of(&self.inside, start, &second, &second)
+            let place = self.draws.below(self.inside.count);
+            let start = self.draws.below(self.inside.count);
+            if let Some(second) = self.inside.get(place)
+                && let Some(third) = self.inside.third_of(start, &second, &second)
             {
                 return Some((second.literal, third.literal));
             }
@@ -287,74 +345,59 @@ impl Replacer {
     }
 
     /// A node of these two and of an inner node, to be right where one of the two is wrong.
-    fn two_nodes(&mut self, a: &Divisor, b: &Divisor) -> Result<Option<Form>, NoMemory> {
+    fn two_nodes(&mut self, a: &Divisor, b: &Divisor) -> Option<Form> {
         let matters = a.or(b);
-        let Some(operand) = self.operand() else {
-            return Ok(None);
-        };
-        let first = operand.within(&matters);
+        let first = self.operand()?.within(&matters);
         if first.is_right() {
-            return Ok(Some(Form::node([a.literal, b.literal, first.literal])));
+            return Some(Form::node([a.literal, b.literal, first.literal]));
         }
-        self.find_inside(&first, &matters)?;
+        self.find_inside(&first, &matters);
         // One alone has none to join.
-        if self.inside.len() < 2 {
-            return Ok(None);
+        if self.inside.count < 2 {
+            return None;
         }
-        let Some((second, third)) = self.inner_pair() else {
-            return Ok(None);
-        };
+        let (second, third) = self.inner_pair()?;
         let inner = [first.literal, second, third];
-        Ok(Some(Form::two(inner, [a.literal, b.literal])))
+        Some(Form::two(inner, [a.literal, b.literal]))
     }
 
     /// Two nodes, of which the one reads the other.
-    fn two(&mut self) -> Result<Option<Form>, NoMemory> {
+    fn two(&mut self) -> Option<Form> {
         for _ in 0..TRIES_OF_TWO {
             if let Some((a, b)) = self.pair() {
-                let form = self.two_nodes(&a, &b)?;
+                let form = self.two_nodes(&a, &b);
                 if form.is_some() {
-                    return Ok(form);
+                    return form;
                 }
             }
         }
-        Ok(None)
+        None
     }
 
     /// A form for a drawn node.
-    fn form(
-        &mut self,
-        sketch: &Sketch,
-        tables: &Tables,
-        node: u8,
-    ) -> Result<Option<Form>, NoMemory> {
+    fn form(&mut self, sketch: &Sketch, tables: &Tables, node: u8, above: u64) -> Option<Form> {
         let kind = self.draws.below(100);
         if kind < OF_LEAVES {
-            return Ok(self.of_leaves(sketch, node));
+            return self.of_leaves(sketch, node);
         }
-        if let Some(literal) = self.find_divisors(sketch, tables, node)? {
-            return Ok(Some(Form::literal(literal)));
+        if let Some(literal) = self.find_divisors(sketch, tables, node, above) {
+            return Some(Form::literal(literal));
         }
         if kind < OF_LEAVES_OR_TWO {
             self.two()
         } else {
-            Ok(self.one_node())
+            self.one_node()
         }
     }
 
     /// A drawn node, and what comes in its place, where one is found.
-    pub fn drawn(
-        &mut self,
-        sketch: &Sketch,
-        tables: &Tables,
-    ) -> Result<Option<Replacement>, NoMemory> {
+    pub fn drawn(&mut self, sketch: &Sketch, tables: &Tables) -> Option<Replacement> {
         let place = self.draws.below(sketch.count as usize);
         let place = if place < 32 { place as u8 } else { 0 };
         let node = sketch.first().saturating_add(place);
-        Ok(match self.form(sketch, tables, node)? {
-            Some(form) => Some(Replacement { node, form }),
-            None => None,
-        })
+        let above = sketch.above(node);
+        let form = self.form(sketch, tables, node, above)?;
+        Some(Replacement { node, above, form })
     }
 }
 
@@ -370,14 +413,4 @@ fn first_of(list: &[Divisor], a: &Divisor, b: &Divisor) -> Option<Divisor> {
         }
     }
     None
-}
-
-/// The first from a place on that joins both, or else the first before it.
-fn third_of(list: &[Divisor], start: usize, a: &Divisor, b: &Divisor) -> Option<Divisor> {
-    if let Some(later) = list.get(start..)
-        && let Some(c) = first_of(later, a, b)
-    {
-        return Some(c);
-    }
-    first_of(list.get(..start)?, a, b)
 }

@@ -96,6 +96,16 @@ fn built(offer: &Sketch, alloc: Global) -> Result<MigOuts, NoMemory>
     Ok(MigOuts { mig, outs })
 }
 
+/// The graph that a sketch stands for, reduced, whether or not it is right.
+pub fn graph_of(offer: &Sketch, alloc: Global) -> Result<MigOuts, NoMemory>
+    ensures named { IfOk result (λ r. AreNamed r.mig r.outs.items) }
+    ensures reduced { IfOk result (λ r. IsReduced r.mig r.outs.items) }
+    ensures long { IfOk result (λ r. length r.outs.items ≡ offer.now.outputs) }
+{
+    let made = built(offer, alloc)?;
+    reduced(&made, alloc)
+}
+
 /// Whether a graph may stand for another: it keeps the outputs and has no more nodes.
 fn may_stand(m: &MigOuts, r: &MigOuts, alloc: Global) -> Result<bool, NoMemory>
     requires named { AreNamed m.now.mig m.now.outs.items }

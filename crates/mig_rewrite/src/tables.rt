@@ -2,56 +2,52 @@
 
 use crate::sketch::{Sketch, has, mixed, with};
 
-/// The values of a node on the 256 assignments of 8 inputs.
+/// The values of a node on the 128 assignments of 7 inputs.
 #[derive(Clone, Copy)]
-pub struct Table(pub [u64; 4]);
+pub struct Table(pub u128);
 
 /// The most inputs of which a table has every assignment.
-pub const MOST_INPUTS: u8 = 8;
+pub const MOST_INPUTS: u8 = 7;
 
 /// The tables of a sketch's nodes.
 pub type Tables = [Table; 64];
 
-/// The values of the first inputs in a word of 64 assignments.
-const IN_WORD: [u64; 6] = [
-    0xAAAAAAAAAAAAAAAA,
-    0xCCCCCCCCCCCCCCCC,
-    0xF0F0F0F0F0F0F0F0,
-    0xFF00FF00FF00FF00,
-    0xFFFF0000FFFF0000,
-    0xFFFFFFFF00000000,
+/// The values of the first inputs in a table.
+const IN_TABLE: [u128; 7] = [
+    0xAAAAAAAAAAAAAAAA_AAAAAAAAAAAAAAAA,
+    0xCCCCCCCCCCCCCCCC_CCCCCCCCCCCCCCCC,
+    0xF0F0F0F0F0F0F0F0_F0F0F0F0F0F0F0F0,
+    0xFF00FF00FF00FF00_FF00FF00FF00FF00,
+    0xFFFF0000FFFF0000_FFFF0000FFFF0000,
+    0xFFFFFFFF00000000_FFFFFFFF00000000,
+    0xFFFFFFFFFFFFFFFF_0000000000000000,
 ];
 
-const NONE: Table = Table([0; 4]);
+/// 0 on all assignments.
+pub const NONE: Table = Table(0);
 
 impl Table {
     fn of_input(input: u8) -> Table {
-        match IN_WORD.get(input as usize) {
-            Some(word) => Table([*word; 4]),
-            None if input == 6 => Table([0, u64::MAX, 0, u64::MAX]),
-            None => Table([0, 0, u64::MAX, u64::MAX]),
+        match IN_TABLE.get(input as usize) {
+            Some(table) => Table(*table),
+            None => NONE,
         }
     }
 
-    /// An input's values on 256 drawn assignments.
+    /// An input's values on 128 drawn assignments.
     fn drawn(input: u8) -> Table {
         let seed = (input as u64 + 1) << 8;
-        Table([
-            mixed(seed),
-            mixed(seed + 1),
-            mixed(seed + 2),
-            mixed(seed + 3),
-        ])
+        Table(u128::from(mixed(seed)) << 64 | u128::from(mixed(seed + 1)))
     }
 
-    /// An input's values on a page of 256 assignments: bit k of the page's number is input 8 + k.
+    /// An input's values on a page of 128 assignments: bit k of the page's number is input 7 + k.
     fn on_page(input: u8, page: u16) -> Table {
         if input < MOST_INPUTS {
             return Table::of_input(input);
         }
         let place = input - MOST_INPUTS;
         if place < 16 && page >> place & 1 == 1 {
-            Table([u64::MAX; 4])
+            Table(u128::MAX)
         } else {
             NONE
         }
@@ -59,48 +55,38 @@ impl Table {
 
     #[inline(always)]
     fn complement(&self) -> Table {
-        let Table([a, b, c, d]) = *self;
-        Table([!a, !b, !c, !d])
+        Table(!self.0)
     }
 
     #[inline(always)]
     pub fn xor(&self, other: &Table) -> Table {
-        let Table([a, b, c, d]) = *self;
-        let Table([e, f, g, h]) = *other;
-        Table([a ^ e, b ^ f, c ^ g, d ^ h])
+        Table(self.0 ^ other.0)
     }
 
     #[inline(always)]
     pub fn and(&self, other: &Table) -> Table {
-        let Table([a, b, c, d]) = *self;
-        let Table([e, f, g, h]) = *other;
-        Table([a & e, b & f, c & g, d & h])
+        Table(self.0 & other.0)
     }
 
     #[inline(always)]
     pub fn or(&self, other: &Table) -> Table {
-        let Table([a, b, c, d]) = *self;
-        let Table([e, f, g, h]) = *other;
-        Table([a | e, b | f, c | g, d | h])
+        Table(self.0 | other.0)
     }
 
     #[inline(always)]
     pub fn is_zero(&self) -> bool {
-        let Table([a, b, c, d]) = *self;
-        a | b | c | d == 0
+        self.0 == 0
     }
 
-    /// Whether no assignment is in both. The first words tell most of those apart that are not.
+    /// Whether no assignment is in both.
     #[inline(always)]
     pub fn is_apart(&self, other: &Table) -> bool {
-        let Table([a, b, c, d]) = *self;
-        let Table([e, f, g, h]) = *other;
-        a & e == 0 && b & f | c & g | d & h == 0
+        self.0 & other.0 == 0
     }
 
     #[inline(always)]
     fn majority(a: &Table, b: &Table, c: &Table) -> Table {
-        a.and(b).or(&c.and(&a.or(b)))
+        Table(a.0 & b.0 | c.0 & (a.0 | b.0))
     }
 }
 
@@ -139,7 +125,7 @@ pub fn complete(tables: &mut Tables, sketch: &Sketch) {
     }
 }
 
-/// The tables of all nodes: on every assignment of at most 8 inputs, else on 256 drawn ones.
+/// The tables of all nodes: on every assignment of at most 7 inputs, else on 128 drawn ones.
 pub fn tables_of(sketch: &Sketch) -> Tables {
     let mut tables = no_tables();
     for input in 0..sketch.inputs {
@@ -156,7 +142,7 @@ pub fn tables_of(sketch: &Sketch) -> Tables {
     tables
 }
 
-/// The tables of all nodes on a page of 256 assignments.
+/// The tables of all nodes on a page of 128 assignments.
 fn tables_on_page(sketch: &Sketch, page: u16) -> Tables {
     let mut tables = no_tables();
     for input in 0..sketch.inputs {
@@ -183,14 +169,15 @@ fn agree_on_page(first: &Sketch, second: &Sketch, page: u16) -> bool {
     true
 }
 
-/// How many pages of 256 assignments so many inputs have, of at most 12.
+/// How many pages of 128 assignments so many inputs have, of at most 12.
 fn pages(inputs: u8) -> u16 {
     match inputs {
-        0..=8 => 1,
-        9 => 2,
-        10 => 4,
-        11 => 8,
-        _ => 16,
+        0..=7 => 1,
+        8 => 2,
+        9 => 4,
+        10 => 8,
+        11 => 16,
+        _ => 32,
     }
 }
 

@@ -617,7 +617,7 @@ impl Beam {
         scope: Scope,
         alloc: Global,
     ) -> Result<(), NoMemory> {
-        let now = mem::replace(&mut self.now, Bucket::new(alloc));
+        let mut now = mem::replace(&mut self.now, Bucket::new(alloc));
         memory.start_step();
         for entry in &now.kept {
             self.go_on(task, memory, entry, scope)?;
@@ -625,8 +625,10 @@ impl Beam {
         if let Some(entry) = now.only_safe(task) {
             self.go_on(task, memory, &entry, scope)?;
         }
-        self.now = mem::replace(&mut self.next, Bucket::new(alloc));
-        self.next = mem::replace(&mut self.after, Bucket::new(alloc));
+        // Its memory serves again.
+        now.clear();
+        let after = mem::replace(&mut self.after, now);
+        self.now = mem::replace(&mut self.next, after);
         self.steps = self.steps.saturating_sub(1);
         Ok(())
     }

@@ -92,6 +92,13 @@ impl Bucket {
         }
     }
 
+    /// Nothing is kept any more.
+    pub fn clear(&mut self) {
+        self.kept.clear();
+        self.safe = None;
+        self.worst = u32::MAX;
+    }
+
     pub fn is_empty(&self) -> bool {
         self.kept.is_empty() && self.safe.is_none()
     }

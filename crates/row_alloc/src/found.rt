@@ -25,8 +25,8 @@ pub enum Search<'a> {
     Deep,
     /// By the broad beam alone.
     Broad,
-    /// By more than one: of a body in rows the greedy body, which takes no more than by the narrow
-    /// or the wide one, and of one in cells the better of the narrow and the broad one.
+    /// By more than one beam, one after another: of a body in rows the greedy body, of one in cells
+    /// the better of the narrow and the broad one.
     Whole,
 }
 

@@ -179,7 +179,7 @@ answer_case found of x y None r s same =
 
 pub scans_answer_alike : ScansAnswerAlike
 unfolding answer
-scans_answer_alike g p other banks table q i j all =
+scans_answer_alike g p other banks table q i j all parts =
     let a = routines_of scan_text p in
     let b = routines_of scan_text other in
     answer_case (found_in g banks table q) (query_count table q)
@@ -187,7 +187,7 @@ scans_answer_alike g p other banks table q i j all =
     (sum_of (replies g b table (query_script table q))) (checked table (nodes_of q))
     (scan_refused g a table q) (scan_refused g b table q)
     (λ checks. nodes_alike g a b table table (free_name table) (count_of table (nodes_of q)) 0
-    (nodes_of q) (scans_alike p other i j) (scan_is_plain g table q all checks))
+    (nodes_of q) (scans_alike p other i j) (scan_is_plain g table q all parts checks))
 
 -- ---- where the operations take as many commands
 
@@ -238,7 +238,7 @@ same_case found of x y None r s same =
 -- programs of the same costs give the same answer
 pub scans_answer_the_same : ScansAnswerTheSame
 unfolding answer
-scans_answer_the_same g p other banks table q i j costs all =
+scans_answer_the_same g p other banks table q i j costs all parts =
     let a = routines_of scan_text p in
     let b = routines_of scan_text other in
     let alike = scans_alike p other i j in
@@ -246,7 +246,7 @@ scans_answer_the_same g p other banks table q i j costs all =
     (sum_of (replies g a table (query_script table q)))
     (sum_of (replies g b table (query_script table q))) (checked table (nodes_of q))
     (scan_refused g a table q) (scan_refused g b table q)
-    (λ checks. let plain = scan_is_plain g table q all checks in (
+    (λ checks. let plain = scan_is_plain g table q all parts checks in (
       nodes_alike g a b table table (free_name table) (count_of table (nodes_of q)) 0
           (nodes_of q) alike plain,
       ap sum_of (replies_same g a b table (query_script table q) alike costs plain),

@@ -129,7 +129,7 @@ leaves g operations banks table q words f =
 
 -- the ones of the last object are the elements that the query holds of
 pub scans_answer : ScansAnswer
-scans_answer g p banks table q words i shaped t all small checks none =
+scans_answer g p banks table q words i shaped t all small parts checks none =
     let same = tables g banks table in
     let state = held_in g banks table in
     let agrees : Agrees g banks state = record {
@@ -139,16 +139,16 @@ scans_answer g p banks table q words i shaped t all small checks none =
       numbers = numbers g banks table;
     } in
     leaves g (routines_of scan_text p) banks table q words
-    (scan_in_rows g p banks state q words i (objects g banks table all) agrees small
+    (scan_in_rows g p banks state q words i (objects g banks table all) agrees small parts
     (ap (λ (s : List Named). checked s (nodes_of q)) same
     ∙ checks) (ap (λ (s : List Named). scan_refused g (routines_of scan_text p) s q) same
     ∙ none))
 
 -- the instructions of a scan have sizes as every script has
 pub scan_is_plain : ScanIsPlain
-scan_is_plain g table q all checks =
+scan_is_plain g table q all parts checks =
     let banks : Banks = λ bank. [] in
     let same = tables g banks table in
     subst (λ (t : List Named). AllByRecursion IsPlain (scan_script t (nodes_of q))) same
     (query_plain g banks (held_in g banks table) q (objects g banks table all)
-    (numbers g banks table) (ap (λ (s : List Named). checked s (nodes_of q)) same ∙ checks))
+    (numbers g banks table) parts (ap (λ (s : List Named). checked s (nodes_of q)) same ∙ checks))

@@ -1,53 +1,152 @@
 -- Where a query's text breaks a rule other than the grammar's.
 use Rattle.std.proofs.Common.{◌≡◌, ℕ, suc, ◌+◌, ◌^◌, ◌≤◌, ◌⊎◌, Bool, true, false, ◌&&◌}
 use Rattle.std.proofs.Common.{cond, leb, ltb, List, [], ◌∷◌, ◌++◌, Option, Some, None, refl, sym}
-use Rattle.std.proofs.Common.{◌∙◌, ap, subst, arith, inl, inr}
-use Rattle.std.specs.Prelude.{Ok, Err, count_by, option_map}
+use Rattle.std.proofs.Common.{◌∙◌, ap, subst, arith, inl, inr, append-nil, append_assoc}
+use Rattle.std.specs.Prelude.{Ok, Err, count_by, option_map, reverse, ◌||◌}
+use Rattle.std.specs.List.{AllByRecursion}
+use Rattle.std.proofs.lemmas.List.{reverse-append}
+use Rattle.bit_rows.specs.declared.TheConstants.{WIDTH_MAX}
 use Rattle.std.proofs.lemmas.Bool.Decides.{nat_tests}
 use Rattle.std.proofs.lemmas.List.Sums.{sum_by-cons}
 use Rattle.text_lex.specs.Spelled.{fits_name}
 use Rattle.scan_model.specs.declared.QueryKind.{QueryKind}
 use Rattle.scan_model.specs.declared.QueryKind.TheVariants as kind
-use Rattle.scan_model.specs.Texts.{Word, Name, Number, Opens, Closes, Comma, Other, Stranger}
+use Rattle.scan_model.specs.Texts.{Word, Name, Number, Opens, Closes, Comma, OpensBits, Colon}
+use Rattle.scan_model.specs.Texts.{ClosesBits, Other, Stranger}
 use Rattle.scan_model.specs.Texts.{Piece, Lead, Compares, Negates, Ands, Ors, lead_text}
-use Rattle.scan_model.specs.Texts.{all_leads, lead_among, Wanted, Start, Open, Object, Between}
+use Rattle.scan_model.specs.Texts.{all_leads, lead_among, Wanted, Start, Open, Object, AtName}
+use Rattle.scan_model.specs.Texts.{Low, AtLow, High, AtHigh, AtBits, Between}
 use Rattle.scan_model.specs.Texts.{Bound, Close, wanted_after, Begun, tests_in, with_lead, fits}
 use Rattle.scan_model.specs.Texts.{Stepped, started, step, Breach, spare, after_token, breach_of}
 use Rattle.scan_model.specs.Texts.{none_begun}
 use Rattle.scan_model.specs.TextLaws.{bare_words, IsViable, StandsAt}
-use Rattle.scan_model.specs.TextLaws.{BreaksName, BreaksNumber, BreaksCount, is_opening, is_number}
+use Rattle.scan_model.specs.TextLaws.{BreaksName, BreaksNumber, BreaksCount, is_bad}
+use Rattle.scan_model.specs.TextLaws.{is_opening, is_name}
 use Rattle.scan_model.proofs.Parsed.{lead_is, among_text}
 use Rattle.scan_model.proofs.Viable.{follow, and_on, allowed, allowed-append, viable}
 
--- ---- how many of the tokens that are wanted open a node, and how many are bounds
+-- ---- how many of the tokens that are wanted open a node, and how many name an object
 
 abbrev opens_in : List Wanted → ℕ
 opens_in [] = 0
-opens_in (Open ∷ wanted) = suc (opens_in wanted)
 opens_in (Start ∷ wanted) = opens_in wanted
+opens_in (Open ∷ wanted) = suc (opens_in wanted)
 opens_in (Object ∷ wanted) = opens_in wanted
+opens_in (AtName ∷ wanted) = opens_in wanted
+opens_in (Low ∷ wanted) = opens_in wanted
+opens_in (AtLow low ∷ wanted) = opens_in wanted
+opens_in (High low ∷ wanted) = opens_in wanted
+opens_in (AtHigh ∷ wanted) = opens_in wanted
+opens_in (AtBits ∷ wanted) = opens_in wanted
 opens_in (Between ∷ wanted) = opens_in wanted
 opens_in (Bound ∷ wanted) = opens_in wanted
 opens_in (Close ∷ wanted) = opens_in wanted
 
-abbrev bounds_in : List Wanted → ℕ
-bounds_in [] = 0
-bounds_in (Bound ∷ wanted) = suc (bounds_in wanted)
-bounds_in (Start ∷ wanted) = bounds_in wanted
-bounds_in (Open ∷ wanted) = bounds_in wanted
-bounds_in (Object ∷ wanted) = bounds_in wanted
-bounds_in (Between ∷ wanted) = bounds_in wanted
-bounds_in (Close ∷ wanted) = bounds_in wanted
+abbrev objects_in : List Wanted → ℕ
+objects_in [] = 0
+objects_in (Start ∷ wanted) = objects_in wanted
+objects_in (Open ∷ wanted) = objects_in wanted
+objects_in (Object ∷ wanted) = suc (objects_in wanted)
+objects_in (AtName ∷ wanted) = objects_in wanted
+objects_in (Low ∷ wanted) = objects_in wanted
+objects_in (AtLow low ∷ wanted) = objects_in wanted
+objects_in (High low ∷ wanted) = objects_in wanted
+objects_in (AtHigh ∷ wanted) = objects_in wanted
+objects_in (AtBits ∷ wanted) = objects_in wanted
+objects_in (Between ∷ wanted) = objects_in wanted
+objects_in (Bound ∷ wanted) = objects_in wanted
+objects_in (Close ∷ wanted) = objects_in wanted
 
 -- after a query that is wanted neither is
 abbrev IsTidy : List Wanted → Type 0
 IsTidy [] = Unit {0}
-IsTidy (Start ∷ wanted) = (opens_in wanted ≡ 0) × (bounds_in wanted ≡ 0) × IsTidy wanted
+IsTidy (Start ∷ wanted) = (opens_in wanted ≡ 0) × (objects_in wanted ≡ 0) × IsTidy wanted
 IsTidy (Open ∷ wanted) = IsTidy wanted
 IsTidy (Object ∷ wanted) = IsTidy wanted
+IsTidy (AtName ∷ wanted) = IsTidy wanted
+IsTidy (Low ∷ wanted) = IsTidy wanted
+IsTidy (AtLow low ∷ wanted) = IsTidy wanted
+IsTidy (High low ∷ wanted) = IsTidy wanted
+IsTidy (AtHigh ∷ wanted) = IsTidy wanted
+IsTidy (AtBits ∷ wanted) = IsTidy wanted
 IsTidy (Between ∷ wanted) = IsTidy wanted
 IsTidy (Bound ∷ wanted) = IsTidy wanted
 IsTidy (Close ∷ wanted) = IsTidy wanted
+
+-- what stands before a token that is wanted, the last first
+abbrev Follows : Wanted → List Word → Type 0
+Follows Low past = (rest : List Word) × (past ≡ OpensBits ∷ rest)
+Follows (AtLow low) past = (rest : List Word) × (past ≡ Number low ∷ rest)
+Follows (High low) past = (rest : List Word) × (past ≡ Colon ∷ Number low ∷ rest)
+Follows Bound past = (rest : List Word) × (past ≡ Comma ∷ rest)
+Follows Start past = Unit {0}
+Follows Open past = Unit {0}
+Follows Object past = Unit {0}
+Follows AtName past = Unit {0}
+Follows AtHigh past = Unit {0}
+Follows AtBits past = Unit {0}
+Follows Between past = Unit {0}
+Follows Close past = Unit {0}
+
+-- it may be wanted whatever stands before it
+abbrev IsFree : Wanted → Type 0
+IsFree Start = Unit {0}
+IsFree Open = Unit {0}
+IsFree Object = Unit {0}
+IsFree Between = Unit {0}
+IsFree Close = Unit {0}
+IsFree AtName = ⊥
+IsFree Low = ⊥
+IsFree (AtLow low) = ⊥
+IsFree (High low) = ⊥
+IsFree AtHigh = ⊥
+IsFree AtBits = ⊥
+IsFree Bound = ⊥
+
+abbrev AreFree : List Wanted → Type 0
+AreFree wanted = AllByRecursion IsFree wanted
+
+-- what is wanted first follows these tokens, and all after it is free
+abbrev Fitting : List Word → List Wanted → Type 0
+Fitting past [] = Unit {0}
+Fitting past (w ∷ wanted) = Follows w past × AreFree wanted
+
+free_follows : (w : Wanted) (past : List Word) → IsFree w → Follows w past
+free_follows Start past h = tt
+free_follows Open past h = tt
+free_follows Object past h = tt
+free_follows Between past h = tt
+free_follows Close past h = tt
+free_follows AtName past h = tt
+free_follows Low past h = absurd h
+free_follows (AtLow low) past h = absurd h
+free_follows (High low) past h = absurd h
+free_follows AtHigh past h = tt
+free_follows AtBits past h = tt
+free_follows Bound past h = absurd h
+
+free_fitting : (wanted : List Wanted) (past : List Word) → AreFree wanted → Fitting past wanted
+free_fitting [] past h = tt
+free_fitting (w ∷ wanted) past h = (free_follows w past h.0, h.1)
+
+lead_free : (lead : Lead) (wanted : List Wanted) → AreFree wanted
+    → AreFree (wanted_after lead ++ wanted)
+lead_free (Compares op) wanted h = (tt, (tt, (tt, h)))
+lead_free Negates wanted h = (tt, (tt, (tt, h)))
+lead_free Ands wanted h = (tt, (tt, (tt, (tt, (tt, h)))))
+lead_free Ors wanted h = (tt, (tt, (tt, (tt, (tt, h)))))
+
+-- the tokens read, the last first, before those that stood before
+behind : List Word → List Word → List Word
+behind [] past = past
+behind (w ∷ words) past = behind words (w ∷ past)
+
+behind_reverse : (words past : List Word) → behind words past ≡ reverse words ++ past
+unfolding behind
+behind_reverse [] past = refl
+behind_reverse (w ∷ words) past = behind_reverse words (w ∷ past)
+    ∙ sym (append_assoc (reverse words) (w ∷ []) past)
+    ∙ ap (λ ws. ws ++ past) (sym (reverse-append (w ∷ []) words))
 
 lead_opens : (lead : Lead) (wanted : List Wanted)
     → opens_in (wanted_after lead ++ wanted) ≡ suc (opens_in wanted)
@@ -56,12 +155,12 @@ lead_opens Negates wanted = refl
 lead_opens Ands wanted = refl
 lead_opens Ors wanted = refl
 
-lead_bounds : (lead : Lead) (wanted : List Wanted)
-    → bounds_in (wanted_after lead ++ wanted) ≡ tests_in lead + bounds_in wanted
-lead_bounds (Compares op) wanted = omega arith
-lead_bounds Negates wanted = omega arith
-lead_bounds Ands wanted = omega arith
-lead_bounds Ors wanted = omega arith
+lead_objects : (lead : Lead) (wanted : List Wanted)
+    → objects_in (wanted_after lead ++ wanted) ≡ tests_in lead + objects_in wanted
+lead_objects (Compares op) wanted = omega arith
+lead_objects Negates wanted = omega arith
+lead_objects Ands wanted = omega arith
+lead_objects Ors wanted = omega arith
 
 lead_tidy : (lead : Lead) (wanted : List Wanted) → IsTidy (Start ∷ wanted)
     → IsTidy (wanted_after lead ++ wanted)
@@ -75,16 +174,20 @@ lead_tidy Ors wanted t = (t.0, t.1, t)
 record Walk (wanted stack : List Wanted) (s t : Begun) (words : List Word) : Type 0 where
   ok : allowed wanted words ≡ Some stack
   nodes : s.nodes + opens_in stack + count_by is_opening words ≡ t.nodes + opens_in wanted
-  tests : s.tests + bounds_in stack + count_by is_number words ≡ t.tests + bounds_in wanted
+  names : s.nodes + s.tests + objects_in stack + count_by is_name words
+      ≡ t.nodes + t.tests + objects_in wanted
   tidy : IsTidy wanted → IsTidy stack
+  fitting : (past : List Word) → Fitting past wanted → Fitting (behind words past) stack
   fit : fits s ≡ true → fits t ≡ true
 
 nothing_read : (wanted : List Wanted) (s : Begun) → Walk wanted wanted s s []
+unfolding behind
 nothing_read wanted s = record {
   ok = refl;
   nodes = omega arith;
-  tests = omega arith;
+  names = omega arith;
   tidy = λ t. t;
+  fitting = λ past h. h;
   fit = λ f. f;
 }
 
@@ -94,9 +197,10 @@ record OneRead (w : Wanted) (wanted : List Wanted) (s : Begun) (word : Word)
   follows : follow w word ≡ Some front
   nodes : s.nodes + opens_in (front ++ wanted) + count_by is_opening (word ∷ [])
       ≡ t.nodes + opens_in (w ∷ wanted)
-  tests : s.tests + bounds_in (front ++ wanted) + count_by is_number (word ∷ [])
-      ≡ t.tests + bounds_in (w ∷ wanted)
+  names : s.nodes + s.tests + objects_in (front ++ wanted) + count_by is_name (word ∷ [])
+      ≡ t.nodes + t.tests + objects_in (w ∷ wanted)
   tidy : IsTidy (w ∷ wanted) → IsTidy (front ++ wanted)
+  fitting : (past : List Word) → Fitting past (w ∷ wanted) → Fitting (word ∷ past) (front ++ wanted)
   fit : fits s ≡ true → fits t ≡ true
 
 count_one : (test : Word → Bool) (word : Word) (words : List Word)
@@ -110,29 +214,45 @@ count_one test word words =
 one_before : (w : Wanted) (wanted stack front : List Wanted) (s t u : Begun) (word : Word)
     (words : List Word) → OneRead w wanted s word front t → Walk (front ++ wanted) stack t u words
     → Walk (w ∷ wanted) stack s u (word ∷ words)
+unfolding behind
 one_before w wanted stack front s t u word words one more =
     let opened = count_one is_opening word words in
-    let bounded = count_one is_number word words in
+    let named = count_one is_name word words in
     let first_nodes = one.nodes in
-    let first_tests = one.tests in
+    let first_names = one.names in
     let later_nodes = more.nodes in
-    let later_tests = more.tests in
+    let later_names = more.names in
     record {
       ok = ap (λ (o : Option (List Wanted)). and_on o (λ f. allowed (f ++ wanted) words))
           one.follows ∙ more.ok;
       nodes = omega (arith, opened, first_nodes, later_nodes);
-      tests = omega (arith, bounded, first_tests, later_tests);
+      names = omega (arith, named, first_names, later_names);
       tidy = λ h. more.tidy (one.tidy h);
+      fitting = λ past h. more.fitting (word ∷ past) (one.fitting past h);
       fit = λ h. more.fit (one.fit h);
     }
 
 -- ---- what a step tells of its token
 
+-- a number that is wanted there, and not this one
+abbrev IsWrong : Wanted → ℕ → Type 0
+IsWrong Low v = ltb v WIDTH_MAX ≡ false
+IsWrong (High low) v = (ltb low v && leb v WIDTH_MAX) ≡ false
+IsWrong Bound v = ltb v (2 ^ 128) ≡ false
+IsWrong Start v = ⊥
+IsWrong Open v = ⊥
+IsWrong Object v = ⊥
+IsWrong AtName v = ⊥
+IsWrong (AtLow low) v = ⊥
+IsWrong AtHigh v = ⊥
+IsWrong AtBits v = ⊥
+IsWrong Between v = ⊥
+IsWrong Close v = ⊥
+
 abbrev Fault : Wanted → Begun → Word → QueryKind → Type 0
 Fault w s word kind.BadName = (name : List ℕ) × (w ≡ Object) × (word ≡ Name name)
     × (fits_name name ≡ false)
-Fault w s word kind.BadNumber = (v : ℕ) × (w ≡ Bound) × (word ≡ Number v)
-    × (ltb v (2 ^ 128) ≡ false)
+Fault w s word kind.BadNumber = (v : ℕ) × (word ≡ Number v) × IsWrong w v
 Fault w s word kind.TooMany = (lead : Lead) × (w ≡ Start) × (word ≡ Name (lead_text lead))
     × (fits (with_lead s lead) ≡ false)
 Fault w s word kind.Lex = Unit {0}
@@ -143,12 +263,13 @@ Tells w s word (Ok r) = (wanted : List Wanted) → OneRead w wanted s word r.0 r
 Tells w s word (Err k) = Fault w s word k
 
 name_tells : (s : Begun) (name : List ℕ) (b : Bool) → fits_name name ≡ b
-    → Tells Object s (Name name) (cond b (Ok ([], s)) (Err kind.BadName))
+    → Tells Object s (Name name) (cond b (Ok (AtName ∷ [], s)) (Err kind.BadName))
 name_tells s name true e = λ wanted. record {
   follows = refl;
   nodes = omega arith;
-  tests = omega arith;
+  names = omega arith;
   tidy = λ t. t;
+  fitting = λ past h. (tt, h.1);
   fit = λ f. f;
 }
 name_tells s name false e = (name, refl, refl, e)
@@ -158,23 +279,50 @@ number_tells : (s : Begun) (v : ℕ) (b : Bool) → ltb v (2 ^ 128) ≡ b
 number_tells s v true e = λ wanted. record {
   follows = refl;
   nodes = omega arith;
-  tests = omega arith;
+  names = omega arith;
   tidy = λ t. t;
+  fitting = λ past h. free_fitting wanted (Number v ∷ past) h.1;
   fit = λ f. f;
 }
-number_tells s v false e = (v, refl, refl, e)
+number_tells s v false e = (v, refl, e)
+
+low_tells : (s : Begun) (v : ℕ) (b : Bool) → ltb v WIDTH_MAX ≡ b
+    → Tells Low s (Number v) (cond b (Ok (AtLow v ∷ [], s)) (Err kind.BadNumber))
+low_tells s v true e = λ wanted. record {
+  follows = refl;
+  nodes = omega arith;
+  names = omega arith;
+  tidy = λ t. t;
+  fitting = λ past h. ((past, refl), h.1);
+  fit = λ f. f;
+}
+low_tells s v false e = (v, refl, e)
+
+high_tells : (s : Begun) (low v : ℕ) (b : Bool) → (ltb low v && leb v WIDTH_MAX) ≡ b
+    → Tells (High low) s (Number v) (cond b (Ok (AtHigh ∷ [], s)) (Err kind.BadNumber))
+high_tells s low v true e = λ wanted. record {
+  follows = refl;
+  nodes = omega arith;
+  names = omega arith;
+  tidy = λ t. t;
+  fitting = λ past h. (tt, h.1);
+  fit = λ f. f;
+}
+high_tells s low v false e = (v, refl, e)
 
 lead_tells : (s : Begun) (lead : Lead) (b : Bool) → fits (with_lead s lead) ≡ b
     → Tells Start s (Name (lead_text lead))
     (cond b (Ok (wanted_after lead, with_lead s lead)) (Err kind.TooMany))
 lead_tells s lead true e = λ wanted.
     let opened = lead_opens lead wanted in
-    let bounded = lead_bounds lead wanted in
+    let named = lead_objects lead wanted in
     record {
       follows = ap (option_map wanted_after) (lead_is lead);
       nodes = omega (arith, opened);
-      tests = omega (arith, bounded);
+      names = omega (arith, named);
       tidy = lead_tidy lead wanted;
+      fitting = λ past h. free_fitting (wanted_after lead ++ wanted)
+          (Name (lead_text lead) ∷ past) (lead_free lead wanted h.1);
       fit = λ f. e;
     }
 lead_tells s lead false e = (lead, refl, refl, e)
@@ -193,29 +341,88 @@ step_tells Start s (Name name) = start_tells s name (lead_among all_leads name) 
 step_tells Open s Opens = λ wanted. record {
   follows = refl;
   nodes = omega arith;
-  tests = omega arith;
+  names = omega arith;
   tidy = λ t. t;
+  fitting = λ past h. free_fitting wanted (Opens ∷ past) h.1;
   fit = λ f. f;
 }
 step_tells Object s (Name name) = name_tells s name (fits_name name) refl
+step_tells AtName s Comma = λ wanted. record {
+  follows = refl;
+  nodes = omega arith;
+  names = omega arith;
+  tidy = λ t. t;
+  fitting = λ past h. ((past, refl), h.1);
+  fit = λ f. f;
+}
+step_tells AtName s OpensBits = λ wanted. record {
+  follows = refl;
+  nodes = omega arith;
+  names = omega arith;
+  tidy = λ t. t;
+  fitting = λ past h. ((past, refl), h.1);
+  fit = λ f. f;
+}
+step_tells Low s (Number v) = low_tells s v (ltb v WIDTH_MAX) refl
+step_tells (AtLow low) s ClosesBits = λ wanted. record {
+  follows = refl;
+  nodes = omega arith;
+  names = omega arith;
+  tidy = λ t. t;
+  fitting = λ past h. (tt, h.1);
+  fit = λ f. f;
+}
+step_tells (AtLow low) s Colon = λ wanted. record {
+  follows = refl;
+  nodes = omega arith;
+  names = omega arith;
+  tidy = λ t. t;
+  fitting = λ past h. ((h.0.0, ap (λ ws. Colon ∷ ws) h.0.1), h.1);
+  fit = λ f. f;
+}
+step_tells (High low) s (Number v) = high_tells s low v (ltb low v && leb v WIDTH_MAX) refl
+step_tells AtHigh s ClosesBits = λ wanted. record {
+  follows = refl;
+  nodes = omega arith;
+  names = omega arith;
+  tidy = λ t. t;
+  fitting = λ past h. (tt, h.1);
+  fit = λ f. f;
+}
+step_tells AtBits s Comma = λ wanted. record {
+  follows = refl;
+  nodes = omega arith;
+  names = omega arith;
+  tidy = λ t. t;
+  fitting = λ past h. ((past, refl), h.1);
+  fit = λ f. f;
+}
 step_tells Between s Comma = λ wanted. record {
   follows = refl;
   nodes = omega arith;
-  tests = omega arith;
+  names = omega arith;
   tidy = λ t. t;
+  fitting = λ past h. free_fitting wanted (Comma ∷ past) h.1;
   fit = λ f. f;
 }
 step_tells Bound s (Number v) = number_tells s v (ltb v (2 ^ 128)) refl
 step_tells Close s Closes = λ wanted. record {
   follows = refl;
   nodes = omega arith;
-  tests = omega arith;
+  names = omega arith;
   tidy = λ t. t;
+  fitting = λ past h. free_fitting wanted (Closes ∷ past) h.1;
   fit = λ f. f;
 }
 step_tells Start s Other = tt
 step_tells Open s Other = tt
 step_tells Object s Other = tt
+step_tells AtName s Other = tt
+step_tells Low s Other = tt
+step_tells (AtLow low) s Other = tt
+step_tells (High low) s Other = tt
+step_tells AtHigh s Other = tt
+step_tells AtBits s Other = tt
 step_tells Between s Other = tt
 step_tells Bound s Other = tt
 step_tells Close s Other = tt
@@ -324,6 +531,9 @@ not_spare (Number v) h = h
 not_spare Opens h = h
 not_spare Closes h = h
 not_spare Comma h = h
+not_spare OpensBits h = h
+not_spare Colon h = h
+not_spare ClosesBits h = h
 not_spare Other h = h
 
 abbrev kind_in : Breach → QueryKind
@@ -387,12 +597,58 @@ name_faults pieces b h e =
       name = wrong.0;
       stands = stands (Start ∷ []) none_begun pieces b (Name wrong.0) stop (sym wrong.2);
       viable = viable_with (bare_words stop.before) (Name wrong.0 ∷ []) (Object ∷ stop.stack)
-          stop.stack ok refl;
+          (AtName ∷ stop.stack) ok refl;
       long = wrong.3;
     }
 
-at_least : (a b : ℕ) → ltb a b ≡ false → b ≤ a
-at_least a b h = grind (arith, nat_tests)
+over : (a b : ℕ) → ltb a b ≡ false → leb b a ≡ true
+over a b h = grind (arith, nat_tests)
+
+not_between : (low v top : ℕ) → (ltb low v && leb v top) ≡ false → (leb v low || ltb top v) ≡ true
+not_between low v top h = by_case (ltb low v) (leb v top) refl refl h where
+  by_case : (a b : Bool) → ltb low v ≡ a → leb v top ≡ b → (a && b) ≡ false
+      → (leb v low || ltb top v) ≡ true
+  by_case true true e f h = absurd (cc)
+  by_case true false e f h = rw (past v top f) (or_right (leb v low)) where
+    past : (a b : ℕ) → leb a b ≡ false → ltb b a ≡ true
+    past a b h = grind (arith, nat_tests)
+
+    or_right : (a : Bool) → (a || true) ≡ true
+    or_right true = refl
+    or_right false = refl
+  by_case false b e f h = rw (over low v e) refl
+
+-- a number that is wanted after these tokens, and not this one
+wrong_is_bad : (w : Wanted) (v : ℕ) (past : List Word) → Follows w past → IsWrong w v
+    → is_bad past v ≡ true
+wrong_is_bad Low v past f h = rw (f.1) (over v WIDTH_MAX h)
+wrong_is_bad (High low) v past f h = rw (f.1) (not_between low v WIDTH_MAX h)
+wrong_is_bad Bound v past f h = rw (f.1) (over v (2 ^ 128) h)
+wrong_is_bad Start v past f h = absurd h
+wrong_is_bad Open v past f h = absurd h
+wrong_is_bad Object v past f h = absurd h
+wrong_is_bad AtName v past f h = absurd h
+wrong_is_bad (AtLow low) v past f h = absurd h
+wrong_is_bad AtHigh v past f h = absurd h
+wrong_is_bad AtBits v past f h = absurd h
+wrong_is_bad Between v past f h = absurd h
+wrong_is_bad Close v past f h = absurd h
+
+-- the grammar allows a number there
+wrong_allowed : (w : Wanted) (v : ℕ) (stack : List Wanted) → IsWrong w v → (rest : List Wanted)
+    × (allowed (w ∷ stack) (Number v ∷ []) ≡ Some rest)
+wrong_allowed Low v stack h = (AtLow v ∷ stack, refl)
+wrong_allowed (High low) v stack h = (AtHigh ∷ stack, refl)
+wrong_allowed Bound v stack h = (stack, refl)
+wrong_allowed Start v stack h = absurd h
+wrong_allowed Open v stack h = absurd h
+wrong_allowed Object v stack h = absurd h
+wrong_allowed AtName v stack h = absurd h
+wrong_allowed (AtLow low) v stack h = absurd h
+wrong_allowed AtHigh v stack h = absurd h
+wrong_allowed AtBits v stack h = absurd h
+wrong_allowed Between v stack h = absurd h
+wrong_allowed Close v stack h = absurd h
 
 pub number_faults : (pieces : List Piece) (b : Breach)
     → breach_of (Start ∷ []) none_begun pieces ≡ Some b → b.kind ≡ kind.BadNumber
@@ -401,22 +657,25 @@ number_faults pieces b h e =
     let stop = fault_of pieces b kind.BadNumber tt h e in
     let wrong : Fault stop.w stop.begun stop.token.1 kind.BadNumber =
     subst (Fault stop.w stop.begun stop.token.1) e stop.wrong in
-    let ok : allowed (Start ∷ []) (bare_words stop.before) ≡ Some (Bound ∷ stop.stack) =
-    subst (λ (w : Wanted). allowed (Start ∷ []) (bare_words stop.before) ≡ Some (w ∷ stop.stack))
-    wrong.1 stop.walk.ok in
+    let words = bare_words stop.before in
+    let may = wrong_allowed stop.w wrong.0 stop.stack wrong.2 in
+    let fitting = stop.walk.fitting [] (tt, tt) in
+    let past : behind words [] ≡ reverse words =
+    behind_reverse words [] ∙ append-nil (reverse words) in
     record {
-      before = bare_words stop.before;
+      before = words;
       number = wrong.0;
-      stands = stands (Start ∷ []) none_begun pieces b (Number wrong.0) stop (sym wrong.2);
-      viable = viable_with (bare_words stop.before) (Number wrong.0 ∷ []) (Bound ∷ stop.stack)
-          stop.stack ok refl;
-      large = at_least wrong.0 (2 ^ 128) wrong.3;
+      stands = stands (Start ∷ []) none_begun pieces b (Number wrong.0) stop (sym wrong.1);
+      viable = viable_with words (Number wrong.0 ∷ []) (stop.w ∷ stop.stack) may.0 stop.walk.ok
+          may.1;
+      bad = subst (λ ws. is_bad ws wrong.0 ≡ true) past
+          (wrong_is_bad stop.w wrong.0 (behind words []) fitting.0 wrong.2);
     }
 
 lead_allowed : (lead : Lead) (stack : List Wanted) → (rest : List Wanted)
     × (allowed (Start ∷ stack) (Name (lead_text lead) ∷ Opens ∷ []) ≡ Some rest)
 lead_allowed (Compares op) stack = (
-  Object ∷ Between ∷ Bound ∷ Close ∷ stack,
+  Object ∷ Close ∷ stack,
   rw (lead_is (Compares op)) refl,
 )
 lead_allowed Negates stack = (Start ∷ Close ∷ stack, refl)
@@ -452,10 +711,12 @@ one_test Ands = omega arith
 one_test Ors = omega arith
 
 -- in place of the nodes and the tests that have begun, their tokens
-counted : (nodes tests opened bounded more : ℕ) → opened ≡ nodes → bounded ≡ tests
-    → (nodes ≡ 64) ⊎ (more ≡ 1) × (tests ≡ 32) → (opened ≡ 64) ⊎ (more ≡ 1) × (bounded ≡ 32)
-counted nodes tests opened bounded more e f (inl n) = inl (e ∙ n)
-counted nodes tests opened bounded more e f (inr t) = inr (t.0, f ∙ t.1)
+counted : (nodes tests opened named more : ℕ) → opened ≡ nodes → named ≡ nodes + tests
+    → (nodes ≡ 64) ⊎ (more ≡ 1) × (tests ≡ 32)
+    → (opened ≡ 64) ⊎ (more ≡ 1) × (named ≡ opened + 32)
+counted nodes tests opened named more e f (inl n) = inl (e ∙ n)
+counted nodes tests opened named more e f (inr t) =
+    let l = t.1 in inr (t.0, omega (arith, e, f, l))
 
 pub count_faults : (pieces : List Piece) (b : Breach)
     → breach_of (Start ∷ []) none_begun pieces ≡ Some b → b.kind ≡ kind.TooMany
@@ -470,13 +731,13 @@ count_faults pieces b h e =
     wrong.1 stop.walk in
     let tidy = walk.tidy (refl, refl, tt) in
     let nodes = walk.nodes in
-    let tests = walk.tests in
+    let names = walk.names in
     let none_open = tidy.0 in
-    let none_bound = tidy.1 in
+    let none_named = tidy.1 in
     let opened : count_by is_opening words ≡ stop.begun.nodes =
     omega (arith, nodes, none_open) in
-    let bounded : count_by is_number words ≡ stop.begun.tests =
-    omega (arith, tests, none_bound) in
+    let named : count_by is_name words ≡ stop.begun.nodes + stop.begun.tests =
+    omega (arith, names, none_named) in
     let lead = wrong.0 in
     let may = lead_allowed lead stop.stack in
     record {
@@ -487,7 +748,7 @@ count_faults pieces b h e =
       viable = viable_with words (Name (lead_text lead) ∷ Opens ∷ []) (Start ∷ stop.stack) may.0
           walk.ok may.1;
       full = counted stop.begun.nodes stop.begun.tests (count_by is_opening words)
-          (count_by is_number words) (tests_in lead) opened bounded
+          (count_by is_name words) (tests_in lead) opened named
           (few_before stop.begun.nodes stop.begun.tests (tests_in lead) (one_test lead)
           (walk.fit refl) wrong.3);
     }

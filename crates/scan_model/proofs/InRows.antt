@@ -20,13 +20,14 @@ use Rattle.object_alloc.specs.Listed.{Named}
 use Rattle.object_alloc.specs.Spelling.{IsObject}
 use Rattle.machine_model.specs.Columns.{segments, columns}
 use Rattle.machine_model.specs.Routines.{routines_of, meaning_in}
-use Rattle.machine_model.specs.Refusals.{object_named}
+use Rattle.machine_model.specs.Refusals.{object_named, rows_of}
 use Rattle.machine_model.specs.Steps.{Held, table_of}
 use Rattle.machine_model.specs.Agrees.{Agrees, IsPlain, IsWidth}
 use Rattle.machine_model.specs.Script.{banks_at_end}
 use Rattle.machine_model.proofs.Places.{entry_of}
 use Rattle.machine_model.proofs.Whole.{text_gives_words}
-use Rattle.scan_model.specs.Queries.{Query, Node, Test, Not, And, Or, matches, size, nodes_of}
+use Rattle.scan_model.specs.Queries.{Query, HasParts, Node, Test, Not, And, Or, matches, size}
+use Rattle.scan_model.specs.Queries.{nodes_of}
 use Rattle.scan_model.specs.Names.{free_name}
 use Rattle.scan_model.specs.Instructions.{node_instructions, script_from, scan_script, count_of}
 use Rattle.scan_model.specs.Checks.{check_test, checked_from, checked}
@@ -37,6 +38,7 @@ use Rattle.scan_model.proofs.Goes.{table_end}
 use Rattle.scan_model.proofs.Counted.{all_append}
 use Rattle.scan_model.proofs.Meant.{text_means, text_offers}
 use Rattle.scan_model.proofs.Trees.{asked_some}
+use Rattle.scan_model.proofs.Parts.{LooksAtSome, nodes_some, part_wide}
 use Rattle.scan_model.proofs.Whole.{or_later_none, test_checked, asked, scan_in_words}
 
 tail_all : {X : Type 0} (P : X → Type 0) (x : X) (xs : List X) → All P (x ∷ xs) → All P xs
@@ -91,31 +93,32 @@ one_wide : IsWidth 1
 one_wide = (omega arith, omega arith)
 
 node_plain : (g : Geometry) (state : List Held) (names : ℕ → List ℕ) (count k j : ℕ) (node : Node)
-    → 0 < count → AllByRecursion (λ h. IsObject g h.object) state
+    → 0 < count → AllByRecursion (λ h. IsObject g h.object) state → LooksAtSome node
     → checked_from (table_of state) count j (node ∷ []) ≡ None
     → AllByRecursion IsPlain (node_instructions (table_of state) names count k node)
-node_plain g state names count k j (Test op name v) l all e =
-    let c = test_checked (table_of state) count name v
-    (or_later_none (check_test (table_of state) count name v) j None e).0 in
-    let h = has_at state name c.present in
-    let o = at_all (λ h. IsObject g h.object) state name h.0 all h.1 in
-    let w : IsWidth (object_named (table_of state) name).width =
-    subst (λ (p : Object). IsWidth p.width) (sym (at_object state name h.0 h.1)) (
-      o.wide,
-      o.narrow,
-    ) in
+node_plain g state names count k j (Test op p v) l all some e =
+    let c = test_checked (table_of state) count p v
+    (or_later_none (check_test (table_of state) count p v) j None e).0 in
+    let h = has_at state p.name c.present in
+    let o = at_all (λ h. IsObject g h.object) state p.name h.0 all h.1 in
+    let w : IsWidth (rows_of (table_of state) p).width =
+    part_wide p.part (object_named (table_of state) p.name) c.inside some
+    (subst (λ (o : Object). IsWidth o.width) (sym (at_object state p.name h.0 h.1))
+    (o.wide, o.narrow)) in
     ((l, w), (tt, ((l, one_wide), (w, (tt, tt)))))
-node_plain g state names count k j (Not a) l all e = ((l, one_wide), (one_wide, (tt, tt)))
-node_plain g state names count k j (And a b) l all e = ((l, one_wide), (one_wide, (tt, (tt, tt))))
-node_plain g state names count k j (Or a b) l all e = ((l, one_wide), (one_wide, (tt, (tt, tt))))
+node_plain g state names count k j (Not a) l all some e = ((l, one_wide), (one_wide, (tt, tt)))
+node_plain g state names count k j (And a b) l all some e =
+    ((l, one_wide), (one_wide, (tt, (tt, tt))))
+node_plain g state names count k j (Or a b) l all some e =
+    ((l, one_wide), (one_wide, (tt, (tt, tt))))
 
 -- the first and the others are checked
 split_checked : (table : List Named) (count j : ℕ) (node : Node) (nodes : List Node)
     → checked_from table count j (node ∷ nodes) ≡ None
     → (checked_from table count j (node ∷ []) ≡ None) × (i : ℕ)
     × (checked_from table count i nodes ≡ None)
-split_checked table count j (Test op name v) nodes e =
-    let r = or_later_none (check_test table count name v) j
+split_checked table count j (Test op p v) nodes e =
+    let r = or_later_none (check_test table count p v) j
     (checked_from table count (j + 1) nodes) e in
     (rw (r.0) refl, j + 1, r.1)
 split_checked table count j (Not a) nodes e = (refl, j, e)
@@ -124,44 +127,45 @@ split_checked table count j (Or a b) nodes e = (refl, j, e)
 
 script_plain : (g : Geometry) (state : List Held) (names : ℕ
     → List ℕ) (count k j : ℕ) (nodes : List Node) → 0 < count
-    → AllByRecursion (λ h. IsObject g h.object) state
+    → AllByRecursion (λ h. IsObject g h.object) state → AllByRecursion LooksAtSome nodes
     → checked_from (table_of state) count j nodes ≡ None
     → AllByRecursion IsPlain (script_from (table_of state) names count k nodes)
-script_plain g state names count k j [] l all e = tt
-script_plain g state names count k j (node ∷ nodes) l all e =
+script_plain g state names count k j [] l all some e = tt
+script_plain g state names count k j (node ∷ nodes) l all some e =
     let r = split_checked (table_of state) count j node nodes e in
     all_append IsPlain (node_instructions (table_of state) names count k node) _
-    (node_plain g state names count k j node l all r.0)
-    (script_plain g state names count (k + 1) r.1 nodes l all r.2)
+    (node_plain g state names count k j node l all some.0 r.0)
+    (script_plain g state names count (k + 1) r.1 nodes l all some.1 r.2)
 
 -- a query that passes the checks asks for objects with some element
 count_some : (g : Geometry) (banks : Banks) (state : List Held) (q : Query)
     → AllByRecursion (λ h. IsObject g h.object) state
-    → All (λ h. columns g banks h.object ≡ h.numbers) state
+    → All (λ h. columns g banks h.object ≡ h.numbers) state → HasParts q
     → checked (table_of state) (nodes_of q) ≡ None → 0 < count_of (table_of state) (nodes_of q)
-count_some g banks state q objects numbers e =
+count_some g banks state q objects numbers parts e =
     asked_some g state (count_of (table_of state) (nodes_of q)) q
     (asked g state (count_of (table_of state) (nodes_of q))
-    (all_held g banks state objects numbers) 0 0 q e)
+    (all_held g banks state objects numbers) 0 0 q parts e)
 
 pub query_plain : (g : Geometry) (banks : Banks) (state : List Held) (q : Query)
     → AllByRecursion (λ h. IsObject g h.object) state
-    → All (λ h. columns g banks h.object ≡ h.numbers) state
+    → All (λ h. columns g banks h.object ≡ h.numbers) state → HasParts q
     → checked (table_of state) (nodes_of q) ≡ None
     → AllByRecursion IsPlain (scan_script (table_of state) (nodes_of q))
-query_plain g banks state q objects numbers e =
+query_plain g banks state q objects numbers parts e =
     script_plain g state (free_name (table_of state)) (count_of (table_of state) (nodes_of q)) 0 0
-    (nodes_of q) (count_some g banks state q objects numbers e) objects e
+    (nodes_of q) (count_some g banks state q objects numbers parts e) objects
+    (nodes_some 0 q parts) e
 
 pub scan_in_rows : ScanInRows
-scan_in_rows g p banks state q words i objects a small checks none =
+scan_in_rows g p banks state q words i objects a small parts checks none =
     let operations = routines_of scan_text p in
     let script = scan_script (table_of state) (nodes_of q) in
     let few : length state ≤ 256 = simp length-map at a.table.few in
     let scans = scan_in_words g operations (meaning_in scan_text) state q (text_offers p i)
-    text_means (all_held g banks state objects a.numbers) few small checks in
+    text_means (all_held g banks state objects a.numbers) few small parts checks in
     let left = scans.counts none in
-    let plain = query_plain g banks state q objects a.numbers checks in
+    let plain = query_plain g banks state q objects a.numbers parts checks in
     let new = banks_at_end g operations (table_of state) banks script in
     let agrees = subst (λ s. Agrees g new s) left.is
     (text_gives_words g p scan_text script words i plain banks state a) in

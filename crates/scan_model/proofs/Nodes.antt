@@ -1,6 +1,6 @@
 -- The instructions of one node.
-use Rattle.std.proofs.Common.{◌≡◌, ◌≢◌, ℕ, zero, suc, ◌+◌, ◌*◌, ◌^◌, ◌<◌, ◌≤◌, Bool, true, false}
-use Rattle.std.proofs.Common.{not, List, [], ◌∷◌, ◌++◌, map, length, get_or, Some, None}
+use Rattle.std.proofs.Common.{◌≡◌, ◌≢◌, ℕ, zero, suc, ◌+◌, ◌*◌, ◌^◌, ◌<◌, ◌≤◌, Bool, false}
+use Rattle.std.proofs.Common.{not, List, [], ◌∷◌, ◌++◌, map, length, get_or, Option, Some, None}
 use Rattle.std.proofs.Common.{refl, sym, ◌∙◌, ap, subst, arith}
 use Rattle.std.specs.Prelude.{replicate, codes}
 use Rattle.std.specs.List.{range_with_len}
@@ -14,9 +14,12 @@ use Rattle.op_text.specs.declared.tree.Kind.TheVariants.{Word, Bit}
 use Rattle.dram_model.specs.declared.geometry.Geometry.{Geometry}
 use Rattle.dram_model.specs.Elements.{column_count}
 use Rattle.object_alloc.specs.declared.table.Object.{Object}
+use Rattle.bbop_isa.specs.declared.instr.Part.{Part}
 use Rattle.bbop_isa.specs.declared.instr.Place.{Place}
 use Rattle.bbop_isa.specs.Forms.{Bbop, Fill, Free, whole}
+use Rattle.machine_model.specs.Agrees.{IsWidth}
 use Rattle.machine_model.specs.Columns.{object_size}
+use Rattle.machine_model.specs.Places.{cut, is_past, seen}
 use Rattle.machine_model.specs.Routines.{Routines}
 use Rattle.machine_model.specs.Refusals.{refusal, rows_of}
 use Rattle.machine_model.specs.Steps.{Held, table_of, numbers_at, with_results}
@@ -27,12 +30,13 @@ use Rattle.scan_model.specs.Queries.{compared}
 use Rattle.scan_model.specs.Instructions.{op_for, sources_for, compare_with, join_one, join_two}
 use Rattle.scan_model.specs.Laws.{Offers, OffersScan, MeansScan, IsHeld, Leaves}
 use Rattle.scan_model.proofs.States.{lookup, at_append, at_last, absent_append, at_object}
-use Rattle.scan_model.proofs.States.{whole_numbers, renumbered, with_last, dropped}
+use Rattle.scan_model.proofs.States.{place_numbers, whole_numbers, renumbered, with_last, dropped}
 use Rattle.scan_model.proofs.States.{dropped-append}
 use Rattle.scan_model.proofs.States.{dropped-between, dropped-other}
 use Rattle.scan_model.proofs.Goes.{Meaning, Goes, Allowed, one, next}
 use Rattle.scan_model.proofs.Refused.{IsUsed, init_allowed, fill_allowed, free_allowed}
 use Rattle.scan_model.proofs.Refused.{two_allowed, one_allowed}
+use Rattle.scan_model.proofs.Parts.{SomeBits, part_wide, cut_count, seen_at, seen_fits}
 
 pub range_same : {X : Type 0} (f h : ℕ → X) (a n : ℕ) → ((e : ℕ) → a ≤ e → e < a + n → f e ≡ h e)
     → map f (range_with_len a n) ≡ map h (range_with_len a n)
@@ -165,22 +169,33 @@ pub names_part : (s : List Held) (name other : List ℕ) (h : Held) → lookup s
     → lookup s other ≡ None → name ≢ other
 names_part s name other h p q e = let f = ap (lookup s) e in cc
 
--- the object that a comparison asks for
-pub record IsAsked (g : Geometry) (s : List Held) (count : ℕ) (name : List ℕ) (v : ℕ)
+-- the object that a comparison asks for, and the bits that it looks at
+pub record IsAsked (g : Geometry) (s : List Held) (count : ℕ) (p : Place) (v : ℕ)
     (h : Held) : Type 0 where
-  pub at : lookup s name ≡ Some h
+  pub at : lookup s p.name ≡ Some h
   pub held : IsHeld g h
+  pub inside : is_past p.part h.object ≡ false
+  pub some : SomeBits p.part
   pub counted : h.object.count ≡ count
-  pub small : v < 2 ^ h.object.width
+  pub small : v < 2 ^ (cut p.part h.object).width
+
+-- what is seen of the object's numbers, element by element
+seen_numbers : (op : CmpOp) (part : Option Part) (numbers : List ℕ) (v size : ℕ)
+    → marks (λ e. compared op (get_or (map (seen part) numbers) e 0) v) size
+    ≡ marks (λ e. compared op (seen part (get_or numbers e 0)) v) size
+seen_numbers op part numbers v size = range_alike _ _ size
+    (λ e l. ap (λ x. bit_number (compared op x v)) (seen_at part numbers e))
 
 pub compare_goes : (g : Geometry) (operations : Routines) (meaning : Meaning) (s : List Held)
-    (c r name : List ℕ) (op : CmpOp) (v count : ℕ) (h : Held)
-    → OffersScan operations → MeansScan meaning → IsAsked g s count name v h → lookup s c ≡ None
+    (c r : List ℕ) (p : Place) (op : CmpOp) (v count : ℕ) (h : Held)
+    → OffersScan operations → MeansScan meaning → IsAsked g s count p v h → lookup s c ≡ None
     → lookup s r ≡ None → c ≢ r
-    → Goes g operations meaning s (compare_with c r (whole name) op v count h.object.width)
-    (Leaves g s r count (λ e. compared op (get_or h.numbers e 0) v))
-compare_goes g operations meaning s c r name op v count h offers means asked no_c no_r differ =
-    let n = h.object.width in
+    → Goes g operations meaning s (compare_with c r p op v count (cut p.part h.object).width)
+    (Leaves g s r count (λ e. compared op (seen p.part (get_or h.numbers e 0)) v))
+compare_goes g operations meaning s c r p op v count h offers means asked no_c no_r differ =
+    let n = (cut p.part h.object).width in
+    let wide : IsWidth n = part_wide p.part h.object asked.inside asked.some
+    (asked.held.wide, asked.held.narrow) in
     let oc : Object = new_object g (table_of s) count n in
     let c0 : Held = record { name = c; object = oc; numbers = replicate (object_size g oc) 0 } in
     let s1 : List Held = s ++ c0 ∷ [] in
@@ -189,7 +204,7 @@ compare_goes g operations meaning s c r name op v count h offers means asked no_
     let or : Object = new_object g (table_of s2) count 1 in
     let r0 : Held = record { name = r; object = or; numbers = replicate (object_size g or) 0 } in
     let s3 : List Held = s2 ++ r0 ∷ [] in
-    let r1 : Held = renumbered r0 (marks (λ e. compared op (get_or h.numbers e 0) v)
+    let r1 : Held = renumbered r0 (marks (λ e. compared op (seen p.part (get_or h.numbers e 0)) v)
     (object_size g or)) in
     let s4 : List Held = s2 ++ r1 ∷ [] in
     let fits : count ≤ column_count g * g.banks =
@@ -201,20 +216,23 @@ compare_goes g operations meaning s c r name op v count h offers means asked no_
     (length-replicate (object_size g oc) 0 ∙ sym (length-replicate (object_size g oc) v)) in
     let no_r2 : lookup s2 r ≡ None = absent_append s c1 r no_r differ in
     let c_in3 : lookup s3 c ≡ Some c1 = at_append s2 (r0 ∷ []) c c1 (at_last s c1 no_c) in
-    let name_in3 : lookup s3 name ≡ Some h = at_append s2 (r0 ∷ []) name h
-    (at_append s (c1 ∷ []) name h asked.at) in
+    let place_in3 : lookup s3 p.name ≡ Some h = at_append s2 (r0 ∷ []) p.name h
+    (at_append s (c1 ∷ []) p.name h asked.at) in
     let r_in3 : lookup s3 r ≡ Some r0 = at_last s2 r0 no_r2 in
     let sizes : object_size g oc ≡ object_size g or = same_size g oc or refl in
-    let values = compare_values meaning op n v (object_size g or) h.numbers
-    (replicate (object_size g oc) v) means asked.held.numbers_fit asked.small
-    (ap (λ k. replicate k v) sizes) (numbers_at s3) (whole name) (whole c)
-    (whole_numbers s3 name h name_in3) (whole_numbers s3 c c1 c_in3) in
+    let values = compare_values meaning op n v (object_size g or) (map (seen p.part) h.numbers)
+    (replicate (object_size g oc) v) means
+    (λ e. subst (λ x. x < 2 ^ n) (sym (seen_at p.part h.numbers e))
+    (seen_fits p.part h.object (get_or h.numbers e 0) (asked.held.numbers_fit e))) asked.small
+    (ap (λ k. replicate k v) sizes) (numbers_at s3) p (whole c)
+    (place_numbers s3 p h place_in3) (whole_numbers s3 c c1 c_in3)
+    ∙ seen_numbers op p.part h.numbers v (object_size g or) in
     let done : worded g operations meaning s3 (Bbop (op_for op) (whole r)
-    (sources_for op (whole name) (whole c)) count n) ≡ s4 =
+    (sources_for op p (whole c)) count n) ≡ s4 =
     result_last g operations meaning s2 (op_for op) (Word ∷ Word ∷ []) r0
-    (sources_for op (whole name) (whole c)) count n (offers_for operations offers op) no_r2
+    (sources_for op p (whole c)) count n (offers_for operations offers op) no_r2
     (length-replicate (object_size g or) 0) _ values in
-    let name_r : name ≢ r = names_part s name r h asked.at no_r in
+    let name_r : p.name ≢ r = names_part s p.name r h asked.at no_r in
     let c_in4 : lookup s4 c ≡ Some c1 = at_append s2 (r1 ∷ []) c c1 (at_last s c1 no_c) in
     next g operations meaning s s1 _ _ _ (init_allowed g operations s c count n no_c fits) refl
     (next g operations meaning s1 s2 _ _ _ (fill_allowed g operations s1 c v c0 c_in1 asked.small)
@@ -222,10 +240,15 @@ compare_goes g operations meaning s c r name op v count h offers means asked no_
     (next g operations meaning s2 s3 _ _ _ (init_allowed g operations s2 r count 1 no_r2 fits)
     refl
     (next g operations meaning s3 s4 _ _ _
-    (compare_allowed g operations s3 op (whole r) (whole name) (whole c) count n offers
-    asked.held.wide asked.held.narrow
+    (compare_allowed g operations s3 op (whole r) p (whole c) count n offers wide.0 wide.1
     (record { held = r0; at = r_in3; inside = refl; wide = refl; counted = refl })
-    (record { held = h; at = name_in3; inside = refl; wide = refl; counted = asked.counted })
+    (record {
+      held = h;
+      at = place_in3;
+      inside = asked.inside;
+      wide = refl;
+      counted = cut_count p.part h.object ∙ asked.counted;
+    })
     (record { held = c1; at = c_in3; inside = refl; wide = refl; counted = refl }) name_r differ)
     done
     (one g operations meaning s4 (s ++ r1 ∷ []) (Free c) _

@@ -1,7 +1,7 @@
 -- The texts of queries.
 use Rattle.std.proofs.Common.{◌≡◌, ℕ, zero, suc, ◌+◌, ◌^◌, ◌<◌, ◌≤◌, Bool, true, false, ◌&&◌}
 use Rattle.std.proofs.Common.{cond, leb, ltb, List, [], ◌∷◌, ◌++◌, length, drop, Option, Some}
-use Rattle.std.proofs.Common.{None, refl, sym, ◌∙◌, ap, subst, arith}
+use Rattle.std.proofs.Common.{None, ◌⊎◌, refl, sym, ◌∙◌, ap, subst, arith, inl, inr}
 use Rattle.std.specs.Prelude.{Ok, Err, ◌↔◌}
 use Rattle.std.specs.Str.{bytes_eq}
 use Rattle.std.proofs.lemmas.Bool.Decides.{nat_tests}
@@ -11,12 +11,17 @@ use Rattle.scan_model.specs.declared.CmpOp.{CmpOp}
 use Rattle.scan_model.specs.declared.CmpOp.TheVariants as cmp
 use Rattle.scan_model.specs.declared.QueryKind.{QueryKind}
 use Rattle.scan_model.specs.declared.QueryKind.TheVariants as kind
+use Rattle.bit_rows.specs.declared.TheConstants.{WIDTH_MAX}
+use Rattle.scan_model.specs.Queries.{Operand, Whole, Bit, Bits, place_of, IsPart}
 use Rattle.scan_model.specs.Queries.{Query, Compare, Negate, Both, Either, size}
-use Rattle.scan_model.specs.Texts.{Word, Name, Number, Opens, Closes, Comma, Other, Stranger}
+use Rattle.scan_model.specs.Texts.{Word, Name, Number, Opens, Closes, Comma, OpensBits, Colon}
+use Rattle.scan_model.specs.Texts.{ClosesBits, Other, Stranger}
 use Rattle.scan_model.specs.Texts.{Piece, Lead, Compares, Negates, Ands, Ors, lead_text}
-use Rattle.scan_model.specs.Texts.{all_leads, lead_among, Wanted, Start, Open, Object, Between}
+use Rattle.scan_model.specs.Texts.{all_leads, lead_among, Wanted, Start, Open, Object, AtName}
+use Rattle.scan_model.specs.Texts.{Low, AtLow, High, AtHigh, AtBits, Between}
 use Rattle.scan_model.specs.Texts.{Bound, Close, wanted_after, Begun, with_lead, fits, tests_in}
-use Rattle.scan_model.specs.Texts.{Stepped, started, step, after_token, breach_of, none_begun, spelled}
+use Rattle.scan_model.specs.Texts.{Stepped, started, step, after_token, breach_of, none_begun}
+use Rattle.scan_model.specs.Texts.{in_front, spelled}
 use Rattle.scan_model.specs.TextLaws.{tests, IsWritten, Says, bare_words}
 
 -- what has begun after a query
@@ -60,6 +65,9 @@ and_true : (a b : Bool) → (a && b) ≡ true → (a ≡ true) × (b ≡ true)
 and_true true b h = (refl, h)
 and_true false b h = cc
 
+most_true : (x y : ℕ) → x ≤ y → leb x y ≡ true
+most_true x y h = grind (arith, nat_tests)
+
 at_most : (x y : ℕ) → leb x y ≡ true → x ≤ y
 at_most x y h = grind (arith, nat_tests)
 
@@ -98,31 +106,63 @@ start_step : (s : Begun) (lead : Lead) → s.nodes + 1 ≤ 64 → s.tests + test
 start_step s lead a b = rw (lead_is lead, fits_true (with_lead s lead) a b) refl
 
 size_one : (q : Query) → 1 ≤ size q
-size_one (Compare op name v) = omega arith
+size_one (Compare op o v) = omega arith
 size_one (Negate a) = omega arith
 size_one (Both a b) = omega arith
 size_one (Either a b) = omega arith
 
+-- an operand's tokens, and the comma after them
+operand_right : (o : Operand) (wanted : List Wanted) (s : Begun) (pieces : List Piece)
+    (rest : List Word) → bare_words pieces ≡ in_front o (Comma ∷ rest)
+    → fits_name (place_of o).name ≡ true → IsPart o
+    → Right wanted s pieces rest (Bound ∷ []) s Object
+operand_right (Whole x) wanted s pieces rest e fit part =
+    let r1 = right Object wanted s pieces _ _ (AtName ∷ []) s e (rw fit refl) in
+    let r2 = right AtName wanted s r1.left _ _ (Bound ∷ []) s r1.words refl in
+    record { left = r2.left; words = r2.words; is = r1.is ∙ r2.is }
+operand_right (Bit x k) wanted s pieces rest e fit part =
+    let r1 = right Object wanted s pieces _ _ (AtName ∷ []) s e (rw fit refl) in
+    let r2 = right AtName wanted s r1.left _ _ (Low ∷ []) s r1.words refl in
+    let r3 = right Low wanted s r2.left _ _ (AtLow k ∷ []) s r2.words
+    (rw (below_true k WIDTH_MAX part) refl) in
+    let r4 = right (AtLow k) wanted s r3.left _ _ (AtBits ∷ []) s r3.words refl in
+    let r5 = right AtBits wanted s r4.left _ _ (Bound ∷ []) s r4.words refl in
+    record { left = r5.left; words = r5.words; is = r1.is ∙ r2.is ∙ r3.is ∙ r4.is ∙ r5.is }
+operand_right (Bits x low high) wanted s pieces rest e fit part =
+    let l = part.0 in
+    let m = part.1 in
+    let r1 = right Object wanted s pieces _ _ (AtName ∷ []) s e (rw fit refl) in
+    let r2 = right AtName wanted s r1.left _ _ (Low ∷ []) s r1.words refl in
+    let r3 = right Low wanted s r2.left _ _ (AtLow low ∷ []) s r2.words
+    (rw (below_true low WIDTH_MAX (omega (arith, l, m))) refl) in
+    let r4 = right (AtLow low) wanted s r3.left _ _ (High low ∷ []) s r3.words refl in
+    let r5 = right (High low) wanted s r4.left _ _ (AtHigh ∷ []) s r4.words
+    (rw (below_true low high l, most_true high WIDTH_MAX m) refl) in
+    let r6 = right AtHigh wanted s r5.left _ _ (AtBits ∷ []) s r5.words refl in
+    let r7 = right AtBits wanted s r6.left _ _ (Bound ∷ []) s r6.words refl in
+    record {
+      left = r7.left;
+      words = r7.words;
+      is = r1.is ∙ r2.is ∙ r3.is ∙ r4.is ∙ r5.is ∙ r6.is ∙ r7.is;
+    }
+
 through : (q : Query) (wanted : List Wanted) (s : Begun) (pieces : List Piece) (rest : List Word)
     → bare_words pieces ≡ spelled q rest → IsWritten q → s.nodes + size q ≤ 64
     → s.tests + tests q ≤ 32 → Through q wanted s pieces rest
-through (Compare op name v) wanted s pieces rest e w a b =
+through (Compare op o v) wanted s pieces rest e w a b =
     let t = with_lead s (Compares op) in
     let r0 = right Start wanted s pieces _ _ (wanted_after (Compares op)) t e
     (start_step s (Compares op) a b) in
-    let r1 = right Open (Object ∷ Between ∷ Bound ∷ Close ∷ wanted) t r0.left _ _ [] t r0.words
-    refl in
-    let r2 = right Object (Between ∷ Bound ∷ Close ∷ wanted) t r1.left _ _ [] t r1.words
-    (rw (w.0) refl) in
-    let r3 = right Between (Bound ∷ Close ∷ wanted) t r2.left _ _ [] t r2.words refl in
-    let r4 = right Bound (Close ∷ wanted) t r3.left _ _ [] t r3.words
-    (rw (below_true v (2 ^ 128) w.1) refl) in
-    let r5 = right Close wanted t r4.left _ _ [] t r4.words refl in
+    let r1 = right Open (Object ∷ Close ∷ wanted) t r0.left _ _ [] t r0.words refl in
+    let r2 = operand_right o (Close ∷ wanted) t r1.left (Number v ∷ Closes ∷ rest) r1.words w.0
+    w.1 in
+    let r3 = right Bound (Close ∷ wanted) t r2.left _ _ [] t r2.words
+    (rw (below_true v (2 ^ 128) w.2) refl) in
+    let r4 = right Close wanted t r3.left _ _ [] t r3.words refl in
     record {
-      left = r5.left;
-      words = r5.words;
-      is = r0.is ∙ r1.is ∙ r2.is ∙ r3.is ∙ r4.is
-          ∙ r5.is;
+      left = r4.left;
+      words = r4.words;
+      is = r0.is ∙ r1.is ∙ r2.is ∙ r3.is ∙ r4.is;
     }
 through (Negate q) wanted s pieces rest e w a b =
     let t = with_lead s Negates in
@@ -220,73 +260,178 @@ begun_in : Stepped → Begun
 begun_in (Ok r) = r.1
 begun_in (Err k) = none_begun
 
-abbrev IsStep : Begun → (front : List Wanted) → (t : Begun) → Type 0
-IsStep s front t = (front ≡ []) × (t ≡ s)
+abbrev IsStep : Begun → (after front : List Wanted) → (t : Begun) → Type 0
+IsStep s after front t = (front ≡ after) × (t ≡ s)
 
-stays : (s : Begun) (front : List Wanted) (t : Begun) (r : Stepped) → r ≡ Ok ([], s)
-    → r ≡ Ok (front, t) → IsStep s front t
+stays : (s : Begun) (after front : List Wanted) (t : Begun) (r : Stepped) → r ≡ Ok (after, s)
+    → r ≡ Ok (front, t) → IsStep s after front t
 unfolding front_in begun_in
-stays s front t r a b = (ap front_in (sym b ∙ a), ap begun_in (sym b ∙ a))
+stays s after front t r a b = (ap front_in (sym b ∙ a), ap begun_in (sym b ∙ a))
 
 open_ok : (s : Begun) (word : Word) (front : List Wanted) (t : Begun)
-    → step Open s word ≡ Ok (front, t) → (word ≡ Opens) × IsStep s front t
+    → step Open s word ≡ Ok (front, t) → (word ≡ Opens) × IsStep s ([]) front t
 open_ok s (Name x) front t e = cc
 open_ok s (Number v) front t e = cc
-open_ok s Opens front t e = (refl, stays s front t _ refl e)
+open_ok s Opens front t e = (refl, stays s ([]) front t _ refl e)
 open_ok s Closes front t e = cc
 open_ok s Comma front t e = cc
+open_ok s OpensBits front t e = cc
+open_ok s Colon front t e = cc
+open_ok s ClosesBits front t e = cc
 open_ok s Other front t e = cc
 open_ok s Stranger front t e = cc
 
 close_ok : (s : Begun) (word : Word) (front : List Wanted) (t : Begun)
-    → step Close s word ≡ Ok (front, t) → (word ≡ Closes) × IsStep s front t
+    → step Close s word ≡ Ok (front, t) → (word ≡ Closes) × IsStep s ([]) front t
 close_ok s (Name x) front t e = cc
 close_ok s (Number v) front t e = cc
 close_ok s Opens front t e = cc
-close_ok s Closes front t e = (refl, stays s front t _ refl e)
+close_ok s Closes front t e = (refl, stays s ([]) front t _ refl e)
 close_ok s Comma front t e = cc
+close_ok s OpensBits front t e = cc
+close_ok s Colon front t e = cc
+close_ok s ClosesBits front t e = cc
 close_ok s Other front t e = cc
 close_ok s Stranger front t e = cc
 
 between_ok : (s : Begun) (word : Word) (front : List Wanted) (t : Begun)
-    → step Between s word ≡ Ok (front, t) → (word ≡ Comma) × IsStep s front t
+    → step Between s word ≡ Ok (front, t) → (word ≡ Comma) × IsStep s ([]) front t
 between_ok s (Name x) front t e = cc
 between_ok s (Number v) front t e = cc
 between_ok s Opens front t e = cc
 between_ok s Closes front t e = cc
-between_ok s Comma front t e = (refl, stays s front t _ refl e)
+between_ok s Comma front t e = (refl, stays s ([]) front t _ refl e)
+between_ok s OpensBits front t e = cc
+between_ok s Colon front t e = cc
+between_ok s ClosesBits front t e = cc
 between_ok s Other front t e = cc
 between_ok s Stranger front t e = cc
+
+high_end_ok : (s : Begun) (word : Word) (front : List Wanted) (t : Begun)
+    → step AtHigh s word ≡ Ok (front, t) → (word ≡ ClosesBits) × IsStep s (AtBits ∷ []) front t
+high_end_ok s (Name x) front t e = cc
+high_end_ok s (Number v) front t e = cc
+high_end_ok s Opens front t e = cc
+high_end_ok s Closes front t e = cc
+high_end_ok s Comma front t e = cc
+high_end_ok s OpensBits front t e = cc
+high_end_ok s Colon front t e = cc
+high_end_ok s ClosesBits front t e = (refl, stays s (AtBits ∷ []) front t _ refl e)
+high_end_ok s Other front t e = cc
+high_end_ok s Stranger front t e = cc
+
+bits_end_ok : (s : Begun) (word : Word) (front : List Wanted) (t : Begun)
+    → step AtBits s word ≡ Ok (front, t) → (word ≡ Comma) × IsStep s (Bound ∷ []) front t
+bits_end_ok s (Name x) front t e = cc
+bits_end_ok s (Number v) front t e = cc
+bits_end_ok s Opens front t e = cc
+bits_end_ok s Closes front t e = cc
+bits_end_ok s Comma front t e = (refl, stays s (Bound ∷ []) front t _ refl e)
+bits_end_ok s OpensBits front t e = cc
+bits_end_ok s Colon front t e = cc
+bits_end_ok s ClosesBits front t e = cc
+bits_end_ok s Other front t e = cc
+bits_end_ok s Stranger front t e = cc
+
+-- after an object's name: a comma, or bits
+name_end_ok : (s : Begun) (word : Word) (front : List Wanted) (t : Begun)
+    → step AtName s word ≡ Ok (front, t) → (word ≡ Comma) × IsStep s (Bound ∷ []) front t
+    ⊎ (word ≡ OpensBits) × IsStep s (Low ∷ []) front t
+name_end_ok s (Name x) front t e = cc
+name_end_ok s (Number v) front t e = cc
+name_end_ok s Opens front t e = cc
+name_end_ok s Closes front t e = cc
+name_end_ok s Comma front t e = inl (refl, stays s (Bound ∷ []) front t _ refl e)
+name_end_ok s OpensBits front t e = inr (refl, stays s (Low ∷ []) front t _ refl e)
+name_end_ok s Colon front t e = cc
+name_end_ok s ClosesBits front t e = cc
+name_end_ok s Other front t e = cc
+name_end_ok s Stranger front t e = cc
+
+-- after the first number in brackets: their end, or a colon
+low_end_ok : (s : Begun) (low : ℕ) (word : Word) (front : List Wanted) (t : Begun)
+    → step (AtLow low) s word ≡ Ok (front, t) → (word ≡ ClosesBits) × IsStep s (AtBits ∷ []) front t
+    ⊎ (word ≡ Colon) × IsStep s (High low ∷ []) front t
+low_end_ok s low (Name x) front t e = cc
+low_end_ok s low (Number v) front t e = cc
+low_end_ok s low Opens front t e = cc
+low_end_ok s low Closes front t e = cc
+low_end_ok s low Comma front t e = cc
+low_end_ok s low OpensBits front t e = cc
+low_end_ok s low Colon front t e = inr (refl, stays s (High low ∷ []) front t _ refl e)
+low_end_ok s low ClosesBits front t e = inl (refl, stays s (AtBits ∷ []) front t _ refl e)
+low_end_ok s low Other front t e = cc
+low_end_ok s low Stranger front t e = cc
 
 abbrev chosen : Bool → List Wanted × Begun → QueryKind → Stepped
 chosen b r k = cond b (Ok r) (Err k)
 
-test_ok : (b : Bool) (s : Begun) (k : QueryKind) (front : List Wanted) (t : Begun)
-    → chosen b ([], s) k ≡ Ok (front, t) → (b ≡ true) × IsStep s front t
-test_ok true s k front t e = (refl, stays s front t _ refl e)
-test_ok false s k front t e = cc
+test_ok : (b : Bool) (s : Begun) (k : QueryKind) (after front : List Wanted) (t : Begun)
+    → chosen b (after, s) k ≡ Ok (front, t) → (b ≡ true) × IsStep s after front t
+test_ok true s k after front t e = (refl, stays s after front t _ refl e)
+test_ok false s k after front t e = cc
 
 object_ok : (s : Begun) (word : Word) (front : List Wanted) (t : Begun)
     → step Object s word ≡ Ok (front, t) → (x : List ℕ) × (word ≡ Name x) × (fits_name x ≡ true)
-    × IsStep s front t
-object_ok s (Name x) front t e = let r = test_ok (fits_name x) s kind.BadName front t e in
-    (x, refl, r.0, r.1)
+    × IsStep s (AtName ∷ []) front t
+object_ok s (Name x) front t e = let r =
+    test_ok (fits_name x) s kind.BadName (AtName ∷ []) front t e in (x, refl, r.0, r.1)
 object_ok s (Number v) front t e = cc
 object_ok s Opens front t e = cc
 object_ok s Closes front t e = cc
 object_ok s Comma front t e = cc
+object_ok s OpensBits front t e = cc
+object_ok s Colon front t e = cc
+object_ok s ClosesBits front t e = cc
 object_ok s Other front t e = cc
 object_ok s Stranger front t e = cc
 
+low_ok : (s : Begun) (word : Word) (front : List Wanted) (t : Begun)
+    → step Low s word ≡ Ok (front, t) → (v : ℕ) × (word ≡ Number v) × (v < WIDTH_MAX)
+    × IsStep s (AtLow v ∷ []) front t
+low_ok s (Name x) front t e = cc
+low_ok s (Number v) front t e = let r =
+    test_ok (ltb v WIDTH_MAX) s kind.BadNumber (AtLow v ∷ []) front t e in
+    (v, refl, true_below v WIDTH_MAX r.0, r.1)
+low_ok s Opens front t e = cc
+low_ok s Closes front t e = cc
+low_ok s Comma front t e = cc
+low_ok s OpensBits front t e = cc
+low_ok s Colon front t e = cc
+low_ok s ClosesBits front t e = cc
+low_ok s Other front t e = cc
+low_ok s Stranger front t e = cc
+
+high_ok : (s : Begun) (low : ℕ) (word : Word) (front : List Wanted) (t : Begun)
+    → step (High low) s word ≡ Ok (front, t) → (v : ℕ) × (word ≡ Number v) × (low < v)
+    × (v ≤ WIDTH_MAX) × IsStep s (AtHigh ∷ []) front t
+high_ok s low (Name x) front t e = cc
+high_ok s low (Number v) front t e = let r =
+    test_ok (ltb low v && leb v WIDTH_MAX) s kind.BadNumber (AtHigh ∷ []) front t e in
+    let b = and_true (ltb low v) (leb v WIDTH_MAX) r.0 in
+    (v, refl, true_below low v b.0, at_most v WIDTH_MAX b.1, r.1)
+high_ok s low Opens front t e = cc
+high_ok s low Closes front t e = cc
+high_ok s low Comma front t e = cc
+high_ok s low OpensBits front t e = cc
+high_ok s low Colon front t e = cc
+high_ok s low ClosesBits front t e = cc
+high_ok s low Other front t e = cc
+high_ok s low Stranger front t e = cc
+
 bound_ok : (s : Begun) (word : Word) (front : List Wanted) (t : Begun)
     → step Bound s word ≡ Ok (front, t) → (v : ℕ) × (word ≡ Number v) × (v < 2 ^ 128)
-    × IsStep s front t
+    × IsStep s [] front t
 bound_ok s (Name x) front t e = cc
-bound_ok s (Number v) front t e = let r = test_ok (ltb v (2 ^ 128)) s kind.BadNumber front t e in
+bound_ok s (Number v) front t e = let r =
+    test_ok (ltb v (2 ^ 128)) s kind.BadNumber [] front t e in
     (v, refl, true_below v (2 ^ 128) r.0, r.1)
 bound_ok s Opens front t e = cc
 bound_ok s Closes front t e = cc
 bound_ok s Comma front t e = cc
+bound_ok s OpensBits front t e = cc
+bound_ok s Colon front t e = cc
+bound_ok s ClosesBits front t e = cc
 bound_ok s Other front t e = cc
 bound_ok s Stranger front t e = cc
 
@@ -328,10 +473,13 @@ start_ok s (Number v) front t e = cc
 start_ok s Opens front t e = cc
 start_ok s Closes front t e = cc
 start_ok s Comma front t e = cc
+start_ok s OpensBits front t e = cc
+start_ok s Colon front t e = cc
+start_ok s ClosesBits front t e = cc
 start_ok s Other front t e = cc
 start_ok s Stranger front t e = cc
 
--- a token, with its word, that leaves what was wanted after it
+-- a token, with its word, after which this is wanted
 record Passed (word : Word) (wanted : List Wanted) (s : Begun) (pieces : List Piece) : Type 0
   where
     left : List Piece
@@ -339,45 +487,158 @@ record Passed (word : Word) (wanted : List Wanted) (s : Begun) (pieces : List Pi
     shorter : length pieces ≡ length left + 1
     rest : breach_of wanted s left ≡ None
 
-passed : (w0 : Wanted) (word : Word) (wanted : List Wanted) (s : Begun) (pieces : List Piece)
-    (k : Took w0 wanted s pieces) → k.word ≡ word → IsStep s k.front k.begun
-    → Passed word wanted s pieces
-passed w0 word wanted s pieces k e i = record {
+passed : (w0 : Wanted) (word : Word) (after wanted : List Wanted) (s : Begun)
+    (pieces : List Piece) (k : Took w0 wanted s pieces) → k.word ≡ word
+    → IsStep s after k.front k.begun → Passed word (after ++ wanted) s pieces
+passed w0 word after wanted s pieces k e i = record {
   left = k.left;
   words = k.words ∙ ap (λ w. w ∷ bare_words k.left) e;
   shorter = k.shorter;
-  rest = subst (λ t. breach_of wanted t k.left ≡ None) i.1
+  rest = subst (λ t. breach_of (after ++ wanted) t k.left ≡ None) i.1
       (subst (λ f. breach_of (f ++ wanted) k.begun k.left ≡ None) i.0 k.rest);
 }
 
 pass_open : (wanted : List Wanted) (s : Begun) (pieces : List Piece)
     → breach_of (Open ∷ wanted) s pieces ≡ None → Passed Opens wanted s pieces
 pass_open wanted s pieces h = let k = took Open wanted s pieces h in let r =
-    open_ok s k.word k.front k.begun k.ok in passed Open Opens wanted s pieces k r.0 r.1
+    open_ok s k.word k.front k.begun k.ok in passed Open Opens [] wanted s pieces k r.0 r.1
 
 pass_close : (wanted : List Wanted) (s : Begun) (pieces : List Piece)
     → breach_of (Close ∷ wanted) s pieces ≡ None → Passed Closes wanted s pieces
 pass_close wanted s pieces h = let k = took Close wanted s pieces h in let r =
-    close_ok s k.word k.front k.begun k.ok in passed Close Closes wanted s pieces k r.0 r.1
+    close_ok s k.word k.front k.begun k.ok in passed Close Closes [] wanted s pieces k r.0 r.1
 
 pass_between : (wanted : List Wanted) (s : Begun) (pieces : List Piece)
     → breach_of (Between ∷ wanted) s pieces ≡ None → Passed Comma wanted s pieces
 pass_between wanted s pieces h = let k = took Between wanted s pieces h in let r =
-    between_ok s k.word k.front k.begun k.ok in passed Between Comma wanted s pieces k r.0 r.1
+    between_ok s k.word k.front k.begun k.ok in passed Between Comma [] wanted s pieces k r.0 r.1
 
 pass_object : (wanted : List Wanted) (s : Begun) (pieces : List Piece)
     → breach_of (Object ∷ wanted) s pieces ≡ None → (x : List ℕ) × (fits_name x ≡ true)
-    × Passed (Name x) wanted s pieces
+    × Passed (Name x) (AtName ∷ wanted) s pieces
 pass_object wanted s pieces h = let k = took Object wanted s pieces h in let r =
     object_ok s k.word k.front k.begun k.ok in
-    (r.0, r.2, passed Object (Name r.0) wanted s pieces k r.1 r.3)
+    (r.0, r.2, passed Object (Name r.0) (AtName ∷ []) wanted s pieces k r.1 r.3)
+
+pass_name_end : (wanted : List Wanted) (s : Begun) (pieces : List Piece)
+    → breach_of (AtName ∷ wanted) s pieces ≡ None
+    → Passed Comma (Bound ∷ wanted) s pieces ⊎ Passed OpensBits (Low ∷ wanted) s pieces
+pass_name_end wanted s pieces h =
+    let k = took AtName wanted s pieces h in
+    elim (name_end_ok s k.word k.front k.begun k.ok) [
+      | inl r ↦ inl (passed AtName Comma (Bound ∷ []) wanted s pieces k r.0 r.1)
+      | inr r ↦ inr (passed AtName OpensBits (Low ∷ []) wanted s pieces k r.0 r.1)
+    ]
+
+pass_low : (wanted : List Wanted) (s : Begun) (pieces : List Piece)
+    → breach_of (Low ∷ wanted) s pieces ≡ None → (v : ℕ) × (v < WIDTH_MAX)
+    × Passed (Number v) (AtLow v ∷ wanted) s pieces
+pass_low wanted s pieces h = let k = took Low wanted s pieces h in let r =
+    low_ok s k.word k.front k.begun k.ok in
+    (r.0, r.2, passed Low (Number r.0) (AtLow r.0 ∷ []) wanted s pieces k r.1 r.3)
+
+pass_low_end : (low : ℕ) (wanted : List Wanted) (s : Begun) (pieces : List Piece)
+    → breach_of (AtLow low ∷ wanted) s pieces ≡ None
+    → Passed ClosesBits (AtBits ∷ wanted) s pieces ⊎ Passed Colon (High low ∷ wanted) s pieces
+pass_low_end low wanted s pieces h =
+    let k = took (AtLow low) wanted s pieces h in
+    elim (low_end_ok s low k.word k.front k.begun k.ok) [
+      | inl r ↦ inl (passed (AtLow low) ClosesBits (AtBits ∷ []) wanted s pieces k r.0 r.1)
+      | inr r ↦ inr (passed (AtLow low) Colon (High low ∷ []) wanted s pieces k r.0 r.1)
+    ]
+
+pass_high : (low : ℕ) (wanted : List Wanted) (s : Begun) (pieces : List Piece)
+    → breach_of (High low ∷ wanted) s pieces ≡ None → (v : ℕ) × (low < v) × (v ≤ WIDTH_MAX)
+    × Passed (Number v) (AtHigh ∷ wanted) s pieces
+pass_high low wanted s pieces h = let k = took (High low) wanted s pieces h in let r =
+    high_ok s low k.word k.front k.begun k.ok in
+    (r.0, r.2, r.3, passed (High low) (Number r.0) (AtHigh ∷ []) wanted s pieces k r.1 r.4)
+
+pass_high_end : (wanted : List Wanted) (s : Begun) (pieces : List Piece)
+    → breach_of (AtHigh ∷ wanted) s pieces ≡ None → Passed ClosesBits (AtBits ∷ wanted) s pieces
+pass_high_end wanted s pieces h = let k = took AtHigh wanted s pieces h in let r =
+    high_end_ok s k.word k.front k.begun k.ok in
+    passed AtHigh ClosesBits (AtBits ∷ []) wanted s pieces k r.0 r.1
+
+pass_bits_end : (wanted : List Wanted) (s : Begun) (pieces : List Piece)
+    → breach_of (AtBits ∷ wanted) s pieces ≡ None → Passed Comma (Bound ∷ wanted) s pieces
+pass_bits_end wanted s pieces h = let k = took AtBits wanted s pieces h in let r =
+    bits_end_ok s k.word k.front k.begun k.ok in
+    passed AtBits Comma (Bound ∷ []) wanted s pieces k r.0 r.1
 
 pass_bound : (wanted : List Wanted) (s : Begun) (pieces : List Piece)
     → breach_of (Bound ∷ wanted) s pieces ≡ None → (v : ℕ) × (v < 2 ^ 128)
     × Passed (Number v) wanted s pieces
 pass_bound wanted s pieces h = let k = took Bound wanted s pieces h in let r =
     bound_ok s k.word k.front k.begun k.ok in
-    (r.0, r.2, passed Bound (Number r.0) wanted s pieces k r.1 r.3)
+    (r.0, r.2, passed Bound (Number r.0) [] wanted s pieces k r.1 r.3)
+
+-- An operand whose tokens stand in front, and a comma after them
+record ReadOperand (wanted : List Wanted) (s : Begun) (pieces : List Piece) : Type 0 where
+  operand : Operand
+  left : List Piece
+  words : bare_words pieces ≡ in_front operand (Comma ∷ bare_words left)
+  fits : fits_name (place_of operand).name ≡ true
+  part : IsPart operand
+  rest : breach_of (Bound ∷ wanted) s left ≡ None
+  shorter : length left < length pieces
+
+-- after `NAME [ LO`
+by_low : (wanted : List Wanted) (s : Begun) (pieces left : List Piece) (x : List ℕ) (low : ℕ)
+    → fits_name x ≡ true → low < WIDTH_MAX
+    → bare_words pieces ≡ Name x ∷ OpensBits ∷ Number low ∷ bare_words left
+    → length left < length pieces → breach_of (AtLow low ∷ wanted) s left ≡ None
+    → ReadOperand wanted s pieces
+by_low wanted s pieces left x low fit l words shorter h = elim (pass_low_end low wanted s left h) [
+  | inl r4 ↦
+      let r5 = pass_bits_end wanted s r4.left r4.rest in
+      record {
+        operand = Bit x low;
+        left = r5.left;
+        words = words ∙ ap (λ ws. Name x ∷ OpensBits ∷ Number low ∷ ws) (r4.words
+            ∙ ap (λ ws. ClosesBits ∷ ws) r5.words);
+        fits = fit;
+        part = l;
+        rest = r5.rest;
+        shorter = omega (arith, shorter, r4.shorter, r5.shorter);
+      }
+  | inr r4 ↦
+      let r5 = pass_high low wanted s r4.left r4.rest in
+      let r6 = pass_high_end wanted s r5.3.left r5.3.rest in
+      let r7 = pass_bits_end wanted s r6.left r6.rest in
+      record {
+        operand = Bits x low r5.0;
+        left = r7.left;
+        words = words ∙ ap (λ ws. Name x ∷ OpensBits ∷ Number low ∷ ws) (r4.words
+            ∙ ap (λ ws. Colon ∷ ws) (r5.3.words ∙ ap (λ ws. Number r5.0 ∷ ws) (r6.words
+            ∙ ap (λ ws. ClosesBits ∷ ws) r7.words)));
+        fits = fit;
+        part = (r5.1, r5.2);
+        rest = r7.rest;
+        shorter = omega (arith, shorter, r4.shorter, r5.3.shorter, r6.shorter, r7.shorter);
+      }
+]
+
+read_operand : (wanted : List Wanted) (s : Begun) (pieces : List Piece)
+    → breach_of (Object ∷ wanted) s pieces ≡ None → ReadOperand wanted s pieces
+read_operand wanted s pieces h =
+    let r1 = pass_object wanted s pieces h in
+    elim (pass_name_end wanted s r1.2.left r1.2.rest) [
+      | inl r2 ↦ record {
+        operand = Whole r1.0;
+        left = r2.left;
+        words = r1.2.words ∙ ap (λ ws. Name r1.0 ∷ ws) r2.words;
+        fits = r1.1;
+        part = tt;
+        rest = r2.rest;
+        shorter = omega (arith, r1.2.shorter, r2.shorter);
+      }
+      | inr r2 ↦
+          let r3 = pass_low wanted s r2.left r2.rest in
+          by_low wanted s pieces r3.2.left r1.0 r3.0 r1.1 r3.1
+          (r1.2.words ∙ ap (λ ws. Name r1.0 ∷ ws) (r2.words ∙ ap (λ ws. OpensBits ∷ ws) r3.2.words))
+          (omega (arith, r1.2.shorter, r2.shorter, r3.2.shorter)) r3.2.rest
+    ]
 
 -- A query whose tokens stand in front
 record Read (wanted : List Wanted) (s : Begun) (pieces : List Piece) : Type 0 where
@@ -402,22 +663,21 @@ by_lead : (fuel : ℕ) → Reads fuel → (lead : Lead) (wanted : List Wanted) (
     → length pieces ≡ length left + 1 → Read wanted s pieces
 by_lead fuel go (Compares op) wanted s left l a b h pieces w n =
     let t = with_lead s (Compares op) in
-    let r1 = pass_open (Object ∷ Between ∷ Bound ∷ Close ∷ wanted) t left h in
-    let r2 = pass_object (Between ∷ Bound ∷ Close ∷ wanted) t r1.left r1.rest in
-    let r3 = pass_between (Bound ∷ Close ∷ wanted) t r2.2.left r2.2.rest in
-    let r4 = pass_bound (Close ∷ wanted) t r3.left r3.rest in
-    let r5 = pass_close wanted t r4.2.left r4.2.rest in
+    let r1 = pass_open (Object ∷ Close ∷ wanted) t left h in
+    let r2 = read_operand (Close ∷ wanted) t r1.left r1.rest in
+    let r3 = pass_bound (Close ∷ wanted) t r2.left r2.rest in
+    let r4 = pass_close wanted t r3.2.left r3.2.rest in
     record {
-      query = Compare op r2.0 r4.0;
-      left = r5.left;
+      query = Compare op r2.operand r3.0;
+      left = r4.left;
       words = w ∙ ap (λ x. Name (lead_text (Compares op)) ∷ x) (r1.words
-          ∙ ap (λ x. Opens ∷ x) (r2.2.words ∙ ap (λ x. Name r2.0 ∷ x) (r3.words
-          ∙ ap (λ x. Comma ∷ x) (r4.2.words ∙ ap (λ x. Number r4.0 ∷ x) r5.words))));
-      written = (r2.1, r4.1);
+          ∙ ap (λ x. Opens ∷ x) (r2.words ∙ ap (λ x. in_front r2.operand (Comma ∷ x))
+          (r3.2.words ∙ ap (λ x. Number r3.0 ∷ x) r4.words)));
+      written = (r2.fits, r2.part, r3.1);
       nodes = a;
       comparisons = b;
-      rest = r5.rest;
-      shorter = omega (arith, n, r1.shorter, r2.2.shorter, r3.shorter, r4.2.shorter, r5.shorter);
+      rest = r4.rest;
+      shorter = omega (arith, n, r1.shorter, r2.shorter, r3.2.shorter, r4.shorter);
     }
 by_lead fuel go Negates wanted s left l a b h pieces w n =
     let t = with_lead s Negates in
@@ -528,7 +788,7 @@ accepted pieces = (
 )
 
 abbrev lead_of : Query → Lead
-lead_of (Compare op name v) = Compares op
+lead_of (Compare op o v) = Compares op
 lead_of (Negate a) = Negates
 lead_of (Both a b) = Ands
 lead_of (Either a b) = Ors
@@ -540,7 +800,7 @@ lead_at (w ∷ rest) = None
 
 lead_at_spelled : (q : Query) (rest : List Word) → lead_at (spelled q rest) ≡ Some (lead_of q)
 unfolding lead_at
-lead_at_spelled (Compare op name v) rest = lead_is (Compares op)
+lead_at_spelled (Compare op o v) rest = lead_is (Compares op)
 lead_at_spelled (Negate a) rest = refl
 lead_at_spelled (Both a b) rest = refl
 lead_at_spelled (Either a b) rest = refl
@@ -552,12 +812,27 @@ same_lead p q xs ys e = some_same (lead_of p) (lead_of q) (sym (lead_at_spelled 
       some_same : (a b : Lead) → Some a ≡ Some b → a ≡ b
       some_same a b e = cc
 
-same_compare : (op op' : CmpOp) (n n' : List ℕ) (v v' : ℕ) (xs ys : List Word) → op ≡ op'
-    → spelled (Compare op n v) xs ≡ spelled (Compare op' n' v') ys
-    → (Compare op n v ≡ Compare op' n' v') × (xs ≡ ys)
-same_compare op op' n n' v v' xs ys o e =
-    let tail : Name n ∷ Comma ∷ Number v ∷ Closes ∷ xs ≡ Name n' ∷ Comma ∷ Number v' ∷ Closes
-    ∷ ys = ap (drop 2) e in
+-- no two operands are spelled alike, with a comma after them
+operand_once : (o o' : Operand) (xs ys : List Word)
+    → in_front o (Comma ∷ xs) ≡ in_front o' (Comma ∷ ys) → (o ≡ o') × (xs ≡ ys)
+operand_once (Whole n) (Whole n') xs ys e = (cc, cc)
+operand_once (Whole n) (Bit n' k') xs ys e = absurd (cc)
+operand_once (Whole n) (Bits n' l' h') xs ys e = absurd (cc)
+operand_once (Bit n k) (Whole n') xs ys e = absurd (cc)
+operand_once (Bit n k) (Bit n' k') xs ys e = (cc, cc)
+operand_once (Bit n k) (Bits n' l' h') xs ys e = absurd (cc)
+operand_once (Bits n l h) (Whole n') xs ys e = absurd (cc)
+operand_once (Bits n l h) (Bit n' k') xs ys e = absurd (cc)
+operand_once (Bits n l h) (Bits n' l' h') xs ys e = (cc, cc)
+
+same_compare : (op op' : CmpOp) (o o' : Operand) (v v' : ℕ) (xs ys : List Word) → op ≡ op'
+    → spelled (Compare op o v) xs ≡ spelled (Compare op' o' v') ys
+    → (Compare op o v ≡ Compare op' o' v') × (xs ≡ ys)
+same_compare op op' o o' v v' xs ys same e =
+    let both = operand_once o o' (Number v ∷ Closes ∷ xs) (Number v' ∷ Closes ∷ ys)
+    (ap (drop 2) e) in
+    let operands = both.0 in
+    let rest = both.1 in
     (cc, cc)
 
 op_same : (op op' : CmpOp) → Compares op ≡ Compares op' → op ≡ op'

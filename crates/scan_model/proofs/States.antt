@@ -9,6 +9,7 @@ use Rattle.std.specs.Str.{bytes_eq}
 use Rattle.std.proofs.lemmas.List.Folds.{find-append}
 use Rattle.object_alloc.specs.Listed.{Named, has_name}
 use Rattle.machine_model.specs.Refusals.{object_named, nothing}
+use Rattle.bbop_isa.specs.declared.instr.Place.{Place}
 use Rattle.bbop_isa.specs.Forms.{whole}
 use Rattle.machine_model.specs.Places.{seen, put_all}
 use Rattle.machine_model.specs.Steps.{Held, table_of, numbers_named, numbers_at, with_results}
@@ -122,6 +123,10 @@ renumbered h numbers = record { name = h.name; object = h.object; numbers = numb
 pub seen_whole : (numbers : List ℕ) → map (seen None) numbers ≡ numbers
 seen_whole [] = refl
 seen_whole (v ∷ numbers) = ap (λ vs. v ∷ vs) (seen_whole numbers)
+
+pub place_numbers : (s : List Held) (p : Place) (h : Held) → lookup s p.name ≡ Some h
+    → numbers_at s p ≡ map (seen p.part) h.numbers
+place_numbers s p h e = ap (map (seen p.part)) (at_numbers s p.name h e)
 
 pub whole_numbers : (s : List Held) (name : List ℕ) (h : Held) → lookup s name ≡ Some h
     → numbers_at s (whole name) ≡ h.numbers

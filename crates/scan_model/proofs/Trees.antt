@@ -9,12 +9,13 @@ use Rattle.bit_rows.specs.Bits.{bit_number}
 use Rattle.dram_model.specs.declared.geometry.Geometry.{Geometry}
 use Rattle.dram_model.specs.Elements.{column_count}
 use Rattle.object_alloc.specs.declared.table.Object.{Object}
+use Rattle.bbop_isa.specs.declared.instr.Place.{Place}
 use Rattle.bbop_isa.specs.Forms.{Instruction}
 use Rattle.machine_model.specs.Routines.{Routines}
 use Rattle.machine_model.specs.Steps.{Held, table_of}
 use Rattle.scan_model.specs.declared.CmpOp.{CmpOp}
 use Rattle.scan_model.specs.Queries.{Query, Compare, Negate, Both, Either, Node, Test, Not, And}
-use Rattle.scan_model.specs.Queries.{Or, matches, size, nodes_from, last_from}
+use Rattle.scan_model.specs.Queries.{Or, Operand, place_of, matches, size, nodes_from, last_from}
 use Rattle.scan_model.specs.Instructions.{node_instructions, script_from, join_two, join_one}
 use Rattle.scan_model.specs.Laws.{Offers, OffersScan, MeansScan, Leaves, element}
 use Rattle.scan_model.proofs.States.{lookup, at_append, absent_append, at_object, at_numbers}
@@ -23,7 +24,7 @@ use Rattle.scan_model.proofs.Nodes.{IsAsked, marked, compare_goes, not_goes, two
 
 -- a query has some node
 pub size_some : (q : Query) → 1 ≤ size q
-size_some (Compare op name v) = omega arith
+size_some (Compare op o v) = omega arith
 size_some (Negate a) = omega arith
 size_some (Both a b) = omega arith
 size_some (Either a b) = omega arith
@@ -35,7 +36,7 @@ two_sizes xs ys n a b e f = let u = length-append xs (ys ++ n ∷ []) in let v =
 
 -- a query has as many nodes in postorder as in its tree
 pub size_is : (k : ℕ) (q : Query) → length (nodes_from k q) ≡ size q
-size_is k (Compare op name v) = refl
+size_is k (Compare op o v) = refl
 size_is k (Negate a) = let u = length-append (nodes_from k a) (Not (last_from k a) ∷ []) in
     omega (arith, u, size_is k a)
 size_is k (Both a b) = two_sizes (nodes_from k a) (nodes_from (k + size a) b) _ (size a) (size b)
@@ -45,14 +46,14 @@ size_is k (Either a b) = two_sizes (nodes_from k a) (nodes_from (k + size a) b) 
 
 -- what a query asks of the objects that stand at its start
 abbrev pub Asked : Geometry → List Held → ℕ → Query → Type 0
-Asked g start count (Compare op name v) = (h : Held) × IsAsked g start count name v h
+Asked g start count (Compare op o v) = (h : Held) × IsAsked g start count (place_of o) v h
 Asked g start count (Negate a) = Asked g start count a
 Asked g start count (Both a b) = Asked g start count a × Asked g start count b
 Asked g start count (Either a b) = Asked g start count a × Asked g start count b
 
 pub asked_fits : (g : Geometry) (start : List Held) (count : ℕ) (q : Query)
     → Asked g start count q → count ≤ column_count g * g.banks
-asked_fits g start count (Compare op name v) a =
+asked_fits g start count (Compare op o v) a =
     subst (λ k. k ≤ column_count g * g.banks) a.1.counted a.1.held.fits
 asked_fits g start count (Negate q) a = asked_fits g start count q a
 asked_fits g start count (Both p q) a = asked_fits g start count p a.0
@@ -60,7 +61,7 @@ asked_fits g start count (Either p q) a = asked_fits g start count p a.0
 
 pub asked_some : (g : Geometry) (start : List Held) (count : ℕ) (q : Query)
     → Asked g start count q → 0 < count
-asked_some g start count (Compare op name v) a = subst (λ k. 0 < k) a.1.counted a.1.held.some
+asked_some g start count (Compare op o v) a = subst (λ k. 0 < k) a.1.counted a.1.held.some
 asked_some g start count (Negate q) a = asked_some g start count q a
 asked_some g start count (Both p q) a = asked_some g start count p a.0
 asked_some g start count (Either p q) a = asked_some g start count p a.0
@@ -110,28 +111,30 @@ module _ (g : Geometry) (operations : Routines) (meaning : Meaning) (start : Lis
         (st.later i (omega (arith, l, u)) v) (names_part differ m i w v (omega (arith, u)));
   }
 
-  asked_later : (k : ℕ) (s : List Held) (name : List ℕ) (v : ℕ) (h : Held) → Stands k s
-      → IsAsked g start count name v h → IsAsked g s count name v h
-  asked_later k s name v h st a = record {
-    at = st.old name h a.at;
+  asked_later : (k : ℕ) (s : List Held) (p : Place) (v : ℕ) (h : Held) → Stands k s
+      → IsAsked g start count p v h → IsAsked g s count p v h
+  asked_later k s p v h st a = record {
+    at = st.old p.name h a.at;
     held = a.held;
-    counted =
-        a.counted;
+    inside = a.inside;
+    some = a.some;
+    counted = a.counted;
     small = a.small;
   }
 
   tree_compare : OffersScan operations → MeansScan meaning → Differ
-      → (op : CmpOp) (name : List ℕ) (v : ℕ) → Asked g start count (Compare op name v)
-      → Tree (Compare op name v)
-  tree_compare offers means differ op name v (h, a) k s fit st =
-      let goes = compare_goes g operations meaning s (names 0) (names (k + 1)) name op v count h
-      offers means (asked_later k s name v h st a) st.first
+      → (op : CmpOp) (o : Operand) (v : ℕ) → Asked g start count (Compare op o v)
+      → Tree (Compare op o v)
+  tree_compare offers means differ op o v (h, a) k s fit st =
+      let p = place_of o in
+      let goes = compare_goes g operations meaning s (names 0) (names (k + 1)) p op v count h
+      offers means (asked_later k s p v h st a) st.first
       (st.later (k + 1) (omega arith) fit)
       (names_part differ 0 (k + 1) (omega arith) fit (omega arith)) in
       rw (
-        script-one k (Test op name v),
-        at_object start name h a.at,
-        at_numbers start name h a.at,
+        script-one k (Test op p v),
+        at_object start p.name h a.at,
+        at_numbers start p.name h a.at,
       ) goes
 
   tree_not : OffersScan operations → MeansScan meaning → Differ → (a : Query)
@@ -221,8 +224,8 @@ module _ (g : Geometry) (operations : Routines) (meaning : Meaning) (start : Lis
 
   pub tree_goes : OffersScan operations → MeansScan meaning → Differ → (q : Query)
       → Asked g start count q → Tree q
-  tree_goes offers means differ (Compare op name v) a =
-      tree_compare offers means differ op name v a
+  tree_goes offers means differ (Compare op o v) a =
+      tree_compare offers means differ op o v a
   tree_goes offers means differ (Negate q) a =
       tree_not offers means differ q (asked_fits g start count q a)
       (tree_goes offers means differ q a)

@@ -10,12 +10,14 @@ use Rattle.dram_model.specs.declared.geometry.Geometry.{Geometry}
 use Rattle.object_alloc.specs.Listed.{Named, has_name}
 use Rattle.machine_model.specs.declared.Why.{Why}
 use Rattle.machine_model.specs.Routines.{Routines}
-use Rattle.machine_model.specs.Refusals.{object_named}
+use Rattle.bbop_isa.specs.declared.instr.Place.{Place}
+use Rattle.machine_model.specs.Places.{cut, is_past}
+use Rattle.machine_model.specs.Refusals.{rows_of, goes_past}
 use Rattle.machine_model.specs.Steps.{Held, table_of}
 use Rattle.machine_model.specs.Script.{table_at_end}
 use Rattle.scan_model.specs.declared.ScanWhy.TheVariants as scan
 use Rattle.scan_model.specs.Queries.{Query, Compare, Negate, Both, Either, Node, Test, Not, And}
-use Rattle.scan_model.specs.Queries.{Or, matches, size, nodes_from, nodes_of}
+use Rattle.scan_model.specs.Queries.{Or, HasParts, place_of, matches, size, nodes_from, nodes_of}
 use Rattle.scan_model.specs.Names.{free_name}
 use Rattle.scan_model.specs.Instructions.{node_instructions, script_from, scan_script, count_of}
 use Rattle.scan_model.specs.Checks.{check_test, checked_from, or_later, or_else, refused_in}
@@ -26,6 +28,7 @@ use Rattle.scan_model.proofs.States.{has_at, at_all, at_object, has_absent}
 use Rattle.scan_model.proofs.Goes.{Goes, ends, stops, refused-append}
 use Rattle.scan_model.proofs.Trees.{Asked, tree_goes}
 use Rattle.scan_model.proofs.FreeNames.{names_are_free}
+use Rattle.scan_model.proofs.Parts.{part_some, cut_count}
 
 pub or_later_none : {R : Type 0} (a : Option R) (k : ℕ) (b : Option (R × ℕ))
     → or_later a k b ≡ None → (a ≡ None) × (b ≡ None)
@@ -37,8 +40,8 @@ checked-append : (table : List Named) (count k : ℕ) (xs ys : List Node)
     → checked_from table count k (xs ++ ys) ≡ None → (checked_from table count k xs ≡ None)
     × (m : ℕ) × (checked_from table count m ys ≡ None)
 checked-append table count k [] ys e = (refl, k, e)
-checked-append table count k (Test op name v ∷ xs) ys e =
-    let s = or_later_none (check_test table count name v) k
+checked-append table count k (Test op p v ∷ xs) ys e =
+    let s = or_later_none (check_test table count p v) k
     (checked_from table count (k + 1) (xs ++ ys)) e in
     let r = checked-append table count (k + 1) xs ys s.1 in
     (ap (λ a. or_later a k (checked_from table count (k + 1) xs)) s.0 ∙ r.0, r.1, r.2)
@@ -46,18 +49,20 @@ checked-append table count k (Not a ∷ xs) ys e = checked-append table count k 
 checked-append table count k (And a b ∷ xs) ys e = checked-append table count k xs ys e
 checked-append table count k (Or a b ∷ xs) ys e = checked-append table count k xs ys e
 
-pub record IsChecked (table : List Named) (count : ℕ) (name : List ℕ) (v : ℕ) : Type 0 where
-  pub present : has_name table name ≡ true
-  pub counted : (object_named table name).count ≡ count
-  pub small : v < 2 ^ (object_named table name).width
+pub record IsChecked (table : List Named) (count : ℕ) (p : Place) (v : ℕ) : Type 0 where
+  pub present : has_name table p.name ≡ true
+  pub inside : goes_past table p ≡ false
+  pub counted : (rows_of table p).count ≡ count
+  pub small : v < 2 ^ (rows_of table p).width
 
-test_case : (a b c : Bool) → cond (not a) (Some scan.NoObject)
-    (cond (not b) (Some scan.Count) (cond c (Some scan.Range) None)) ≡ None → (a ≡ true)
-    × (b ≡ true) × (c ≡ false)
-test_case true true true e = cc
-test_case true true false e = (refl, refl, refl)
-test_case true false c e = cc
-test_case false b c e = cc
+test_case : (a b c d : Bool) → cond (not a) (Some scan.NoObject) (cond b (Some scan.Slice)
+    (cond (not c) (Some scan.Count) (cond d (Some scan.Range) None))) ≡ None → (a ≡ true)
+    × (b ≡ false) × (c ≡ true) × (d ≡ false)
+test_case true false true true e = cc
+test_case true false true false e = (refl, refl, refl, refl)
+test_case true false false d e = cc
+test_case true true c d e = cc
+test_case false b c d e = cc
 
 equal_tested : (a b : ℕ) → eqb a b ≡ true → a ≡ b
 equal_tested a b h = grind (arith, nat_tests)
@@ -65,39 +70,54 @@ equal_tested a b h = grind (arith, nat_tests)
 less_tested : (a b : ℕ) → leb a b ≡ false → b < a
 less_tested a b h = grind (arith, nat_tests)
 
-pub test_checked : (table : List Named) (count : ℕ) (name : List ℕ) (v : ℕ)
-    → check_test table count name v ≡ None → IsChecked table count name v
-test_checked table count name v e =
-    let r = test_case (has_name table name) (eqb (object_named table name).count count)
-    (leb (2 ^ (object_named table name).width) v) e in
-    record { present = r.0; counted = equal_tested _ _ r.1; small = less_tested _ _ r.2 }
+pub test_checked : (table : List Named) (count : ℕ) (p : Place) (v : ℕ)
+    → check_test table count p v ≡ None → IsChecked table count p v
+test_checked table count p v e =
+    let r = test_case (has_name table p.name) (goes_past table p)
+    (eqb (rows_of table p).count count) (leb (2 ^ (rows_of table p).width) v) e in
+    record {
+      present = r.0;
+      inside = r.1;
+      counted = equal_tested _ _ r.2;
+      small = less_tested _ _ r.3;
+    }
 
 pub asked : (g : Geometry) (start : List Held) (count : ℕ) → AllByRecursion (IsHeld g) start
-    → (k j : ℕ) (q : Query) → checked_from (table_of start) count k (nodes_from j q) ≡ None
-    → Asked g start count q
-asked g start count all k j (Compare op name v) e =
-    let r = or_later_none (check_test (table_of start) count name v) k None e in
-    let c = test_checked (table_of start) count name v r.0 in
-    let h = has_at start name c.present in
-    let o = at_object start name h.0 h.1 in (
+    → (k j : ℕ) (q : Query) → HasParts q
+    → checked_from (table_of start) count k (nodes_from j q) ≡ None → Asked g start count q
+asked g start count all k j (Compare op operand v) parts e =
+    let p = place_of operand in
+    let r = or_later_none (check_test (table_of start) count p v) k None e in
+    let c = test_checked (table_of start) count p v r.0 in
+    let h = has_at start p.name c.present in
+    let o = at_object start p.name h.0 h.1 in (
       h.0,
       record {
         at = h.1;
-        held = at_all (IsHeld g) start name h.0 all h.1;
-        counted = sym (ap (λ o. o.count) o) ∙ c.counted;
-        small = subst (λ o. v < 2 ^ o.width) o c.small;
+        held = at_all (IsHeld g) start p.name h.0 all h.1;
+        inside = subst (λ o. is_past p.part o ≡ false) o c.inside;
+        some = part_some operand parts;
+        counted = sym (cut_count p.part h.0.object) ∙ sym (ap (λ o. (cut p.part o).count) o)
+            ∙ c.counted;
+        small = subst (λ o. v < 2 ^ (cut p.part o).width) o c.small;
       },
     )
-asked g start count all k j (Negate a) e = asked g start count all k j a
+asked g start count all k j (Negate a) parts e = asked g start count all k j a parts
     (checked-append (table_of start) count k (nodes_from j a) _ e).0
-asked g start count all k j (Both a b) e =
+asked g start count all k j (Both a b) parts e =
     let r = checked-append (table_of start) count k (nodes_from j a) _ e in
-    let s = checked-append (table_of start) count r.1 (nodes_from (j + size a) b) _ r.2 in
-    (asked g start count all k j a r.0, asked g start count all r.1 (j + size a) b s.0)
-asked g start count all k j (Either a b) e =
+    let s = checked-append (table_of start) count r.1 (nodes_from (j + size a) b) _ r.2 in (
+      asked g start count all k j a parts.0 r.0,
+      asked g start count all r.1 (j + size a) b parts.1
+          s.0,
+    )
+asked g start count all k j (Either a b) parts e =
     let r = checked-append (table_of start) count k (nodes_from j a) _ e in
-    let s = checked-append (table_of start) count r.1 (nodes_from (j + size a) b) _ r.2 in
-    (asked g start count all k j a r.0, asked g start count all r.1 (j + size a) b s.0)
+    let s = checked-append (table_of start) count r.1 (nodes_from (j + size a) b) _ r.2 in (
+      asked g start count all k j a parts.0 r.0,
+      asked g start count all r.1 (j + size a) b parts.1
+          s.0,
+    )
 
 -- the first refused node is that of the first refused instruction
 by_nodes_case : (a rest : Option Why) (k : ℕ) (later : Option (Why × ℕ))
@@ -123,49 +143,50 @@ same_why : (v w : Why) → Some v ≡ Some w → v ≡ w
 same_why v w e = cc
 
 pub scan_in_words : ScanInWords
-scan_in_words g operations meaning state q offers means all few small checks = by_goes goes where
-  count : ℕ
-  count = count_of (table_of state) (nodes_of q)
+scan_in_words g operations meaning state q offers means all few small parts checks =
+    by_goes goes where
+      count : ℕ
+      count = count_of (table_of state) (nodes_of q)
 
-  short : length (table_of state) ≤ 256
-  short = simp length-map few
+      short : length (table_of state) ≤ 256
+      short = simp length-map few
 
-  differ : (i j : ℕ) → i ≤ 64 → j ≤ 64 → free_name (table_of state) i
-      ≡ free_name (table_of state) j → i ≡ j
-  differ i j a b e = names_are_free.differ (table_of state) i j short a b e
+      differ : (i j : ℕ) → i ≤ 64 → j ≤ 64 → free_name (table_of state) i
+          ≡ free_name (table_of state) j → i ≡ j
+      differ i j a b e = names_are_free.differ (table_of state) i j short a b e
 
-  goes : Goes g operations meaning state (scan_script (table_of state) (nodes_of q))
-      (Leaves g state (free_name (table_of state) (size q))
-      (count_of (table_of state) (nodes_of q)) (λ e. matches q (element state e)))
-  goes =
-      let go = tree_goes g operations meaning state (free_name (table_of state))
-      (count_of (table_of state) (nodes_of q)) 64 offers means differ q
-      (asked g state (count_of (table_of state) (nodes_of q)) all 0 0 q checks) 0 state
-      (omega (arith, small))
-      (record {
-        old = λ name h e. e;
-        first = has_absent state _ (names_are_free.free (table_of state) 0 short (omega arith));
-        later = λ i l m. has_absent state _ (names_are_free.free (table_of state) i short m);
-      }) in
-      subst (λ i. Goes g operations meaning state (scan_script (table_of state) (nodes_of q))
-      (Leaves g state (free_name (table_of state) i) (count_of (table_of state) (nodes_of q))
-      (λ e. matches q (element state e)))) (omega arith) go
+      goes : Goes g operations meaning state (scan_script (table_of state) (nodes_of q))
+          (Leaves g state (free_name (table_of state) (size q))
+          (count_of (table_of state) (nodes_of q)) (λ e. matches q (element state e)))
+      goes =
+          let go = tree_goes g operations meaning state (free_name (table_of state))
+          (count_of (table_of state) (nodes_of q)) 64 offers means differ q
+          (asked g state (count_of (table_of state) (nodes_of q)) all 0 0 q parts checks) 0 state
+          (omega (arith, small))
+          (record {
+            old = λ name h e. e;
+            first = has_absent state _ (names_are_free.free (table_of state) 0 short (omega arith));
+            later = λ i l m. has_absent state _ (names_are_free.free (table_of state) i short m);
+          }) in
+          subst (λ i. Goes g operations meaning state (scan_script (table_of state) (nodes_of q))
+          (Leaves g state (free_name (table_of state) i) (count_of (table_of state) (nodes_of q))
+          (λ e. matches q (element state e)))) (omega arith) go
 
-  refused : refused_in g operations (table_of state) (scan_script (table_of state) (nodes_of q))
-      ≡ option_map (λ p. p.0) (scan_refused g operations (table_of state) q)
-  refused = by_nodes g operations (table_of state) (table_of state) (free_name (table_of state))
-      (count_of (table_of state) (nodes_of q)) 0 (nodes_of q)
+      refused : refused_in g operations (table_of state) (scan_script (table_of state) (nodes_of q))
+          ≡ option_map (λ p. p.0) (scan_refused g operations (table_of state) q)
+      refused = by_nodes g operations (table_of state) (table_of state) (free_name (table_of state))
+          (count_of (table_of state) (nodes_of q)) 0 (nodes_of q)
 
-  by_goes : Goes g operations meaning state (scan_script (table_of state) (nodes_of q))
-      (Leaves g state (free_name (table_of state) (size q))
-      (count_of (table_of state) (nodes_of q)) (λ e. matches q (element state e)))
-      → Scans g operations meaning state q
-  by_goes (ends e p) = record {
-    counts = λ none. p;
-    room = λ w k is. let f = refused ∙ ap (option_map (λ p. p.0)) is in cc;
-  }
-  by_goes (stops w e room) = record {
-    counts = λ none. let f = refused ∙ ap (option_map (λ p. p.0)) none in cc;
-    room = λ v k is. subst IsRoom (same_why w v (sym e ∙ refused ∙ ap (option_map (λ p. p.0)) is))
-        room;
-  }
+      by_goes : Goes g operations meaning state (scan_script (table_of state) (nodes_of q))
+          (Leaves g state (free_name (table_of state) (size q))
+          (count_of (table_of state) (nodes_of q)) (λ e. matches q (element state e)))
+          → Scans g operations meaning state q
+      by_goes (ends e p) = record {
+        counts = λ none. p;
+        room = λ w k is. let f = refused ∙ ap (option_map (λ p. p.0)) is in cc;
+      }
+      by_goes (stops w e room) = record {
+        counts = λ none. let f = refused ∙ ap (option_map (λ p. p.0)) none in cc;
+        room = λ v k is. subst IsRoom (same_why w v (sym e ∙ refused ∙ ap (option_map (λ p. p.0)) is))
+            room;
+      }

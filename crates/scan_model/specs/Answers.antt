@@ -22,7 +22,7 @@ use Rattle.machine_model.specs.Steps.{issues_at}
 use Rattle.machine_model.specs.Script.{replies, sum_of, table_at_end, banks_at_end}
 use Rattle.scan_model.specs.declared.ScanWhy.{ScanWhy}
 use Rattle.scan_model.specs.declared.ScanWhy.TheVariants as scan
-use Rattle.scan_model.specs.Queries.{Query, matches, size, nodes_of}
+use Rattle.scan_model.specs.Queries.{Query, HasParts, matches, size, nodes_of}
 use Rattle.scan_model.specs.Names.{free_name}
 use Rattle.scan_model.specs.Instructions.{scan_script, count_of}
 use Rattle.scan_model.specs.Checks.{checked}
@@ -98,8 +98,8 @@ ScansAnswer =
     → ImplementsAll p scan_text
     → ((bank : ℕ) → bank < g.banks → length (banks bank) ≡ column_count g)
     → IsTable (limit_of g) table → All (λ named. IsObject g named.1) table → size q ≤ 64
-    → checked table (nodes_of q) ≡ None → scan_refused g (routines_of scan_text p) table q
-    ≡ None
+    → HasParts q → checked table (nodes_of q) ≡ None
+    → scan_refused g (routines_of scan_text p) table q ≡ None
     → LeavesOne g (routines_of scan_text p) banks table q
 
 -- an answer but for how many commands it took
@@ -113,7 +113,7 @@ abbrev pub ScansAnswerAlike : Type 0
 ScansAnswerAlike =
     (g : Geometry) (p other : Program) (banks : Banks) (table : List Named) (q : Query)
     → ImplementsAll p scan_text → ImplementsAll other scan_text
-    → All (λ named. IsObject g named.1) table
+    → All (λ named. IsObject g named.1) table → HasParts q
     → uncounted (answer g (routines_of scan_text p) banks table q)
     ≡ uncounted (answer g (routines_of scan_text other) banks table q)
 
@@ -128,6 +128,6 @@ abbrev pub ScansAnswerTheSame : Type 0
 ScansAnswerTheSame =
     (g : Geometry) (p other : Program) (banks : Banks) (table : List Named) (q : Query)
     → ImplementsAll p scan_text → ImplementsAll other scan_text → CostTheSame p other
-    → All (λ named. IsObject g named.1) table
+    → All (λ named. IsObject g named.1) table → HasParts q
     → answer g (routines_of scan_text p) banks table q
     ≡ answer g (routines_of scan_text other) banks table q

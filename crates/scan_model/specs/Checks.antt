@@ -6,7 +6,8 @@ use Rattle.object_alloc.specs.Listed.{Named}
 use Rattle.bbop_isa.specs.Forms.{Instruction}
 use Rattle.machine_model.specs.declared.Why.{Why}
 use Rattle.machine_model.specs.Routines.{Routines}
-use Rattle.machine_model.specs.Refusals.{object_named, is_absent, refusal}
+use Rattle.bbop_isa.specs.declared.instr.Place.{Place}
+use Rattle.machine_model.specs.Refusals.{rows_of, goes_past, is_absent, refusal}
 use Rattle.machine_model.specs.Steps.{table_after}
 use Rattle.machine_model.specs.Script.{table_at_end}
 use Rattle.scan_model.specs.declared.ScanWhy.{ScanWhy}
@@ -14,12 +15,14 @@ use Rattle.scan_model.specs.declared.ScanWhy.TheVariants as scan
 use Rattle.scan_model.specs.Queries.{Node, Test, Not, And, Or}
 use Rattle.scan_model.specs.Instructions.{node_instructions, count_of}
 
--- a comparison's object is there, has this count, and is wide enough for the number
-abbrev pub check_test : List Named → ℕ → List ℕ → ℕ → Option ScanWhy
-check_test table count name v =
-    if is_absent table name then Some scan.NoObject
-    else (if not ((object_named table name).count == count) then Some scan.Count
-    else (if nat_le (2 ^ (object_named table name).width) v then Some scan.Range else None))
+-- a comparison's object is there, its bits do not end past it, it has this count, and it is wide
+-- enough for the number
+abbrev pub check_test : List Named → ℕ → Place → ℕ → Option ScanWhy
+check_test table count place v =
+    if is_absent table place.name then Some scan.NoObject
+    else (if goes_past table place then Some scan.Slice
+    else (if not ((rows_of table place).count == count) then Some scan.Count
+    else (if nat_le (2 ^ (rows_of table place).width) v then Some scan.Range else None)))
 
 -- what is at fault, and its number
 abbrev pub or_later : {R : Type 0} → Option R → ℕ → Option (R × ℕ) → Option (R × ℕ)
@@ -29,8 +32,8 @@ or_later None k later = later
 -- the first comparison at fault, where the first has this number
 abbrev pub checked_from : List Named → ℕ → ℕ → List Node → Option (ScanWhy × ℕ)
 checked_from table count k [] = None
-checked_from table count k (Test op name v ∷ nodes) =
-    or_later (check_test table count name v) k (checked_from table count (k + 1) nodes)
+checked_from table count k (Test op place v ∷ nodes) =
+    or_later (check_test table count place v) k (checked_from table count (k + 1) nodes)
 checked_from table count k (Not a ∷ nodes) = checked_from table count k nodes
 checked_from table count k (And a b ∷ nodes) = checked_from table count k nodes
 checked_from table count k (Or a b ∷ nodes) = checked_from table count k nodes

@@ -3,7 +3,7 @@ use Rattle.std.specs.Prelude.{ℕ, ◌+◌, List, [], ◌∷◌, ◌++◌, codes
 use Rattle.object_alloc.specs.Listed.{Named}
 use Rattle.bbop_isa.specs.declared.instr.Place.{Place}
 use Rattle.bbop_isa.specs.Forms.{Instruction, Init, Bbop, Fill, Free, whole}
-use Rattle.machine_model.specs.Refusals.{object_named}
+use Rattle.machine_model.specs.Refusals.{rows_of}
 use Rattle.scan_model.specs.declared.CmpOp.{CmpOp}
 use Rattle.scan_model.specs.declared.CmpOp.TheVariants as cmp
 use Rattle.scan_model.specs.Queries.{Node, Test, Not, And, Or}
@@ -17,7 +17,7 @@ op_for cmp.Ge = codes "s_ge"
 op_for cmp.Lt = codes "s_gt"
 op_for cmp.Le = codes "s_ge"
 
--- the sources of a comparison: the object and the constant, turned for less
+-- the sources of a comparison: the operand and the constant, turned for less
 abbrev pub sources_for : CmpOp → Place → Place → List Place
 sources_for cmp.Eq place c = place ∷ c ∷ []
 sources_for cmp.Gt place c = place ∷ c ∷ []
@@ -43,8 +43,8 @@ join_two op r a b count = Init r count 1 ∷ Bbop op (whole r) (whole a ∷ whol
 -- the name number 0 is that of the object to compare with, and the name k + 1 is that of the
 -- result of node k
 abbrev pub node_instructions : List Named → (ℕ → List ℕ) → ℕ → ℕ → Node → List Instruction
-node_instructions table names count k (Test op name v) =
-    compare_with (names 0) (names (k + 1)) (whole name) op v count (object_named table name).width
+node_instructions table names count k (Test op place v) =
+    compare_with (names 0) (names (k + 1)) place op v count (rows_of table place).width
 node_instructions table names count k (Not a) =
     join_one (codes "s_not") (names (k + 1)) (names (a + 1)) count
 node_instructions table names count k (And a b) =
@@ -61,7 +61,7 @@ script_from table names count k (node ∷ nodes) = node_instructions table names
 -- the count of the first comparison's object
 abbrev pub count_of : List Named → List Node → ℕ
 count_of table [] = 0
-count_of table (Test op name v ∷ nodes) = (object_named table name).count
+count_of table (Test op place v ∷ nodes) = (rows_of table place).count
 count_of table (Not a ∷ nodes) = count_of table nodes
 count_of table (And a b ∷ nodes) = count_of table nodes
 count_of table (Or a b ∷ nodes) = count_of table nodes

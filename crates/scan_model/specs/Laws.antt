@@ -25,7 +25,7 @@ use Rattle.machine_model.specs.Agrees.{Agrees, IsPlain}
 use Rattle.machine_model.specs.Script.{words_at_end, banks_at_end, table_at_end, sum_done}
 use Rattle.machine_model.specs.Script.{rows_loaded, rows_printed}
 use Rattle.machine_model.specs.Pieces.{pieces, piece_of}
-use Rattle.scan_model.specs.Queries.{Query, Node, matches, size, nodes_of}
+use Rattle.scan_model.specs.Queries.{Query, Node, HasParts, matches, size, nodes_of}
 use Rattle.op_text.specs.Spelling.{MeetRules}
 use Rattle.scan_model.specs.Operations.{scan_operations, scan_text}
 use Rattle.text_lex.specs.Spelled.{fits_name}
@@ -118,7 +118,7 @@ ScanInWords =
     (g : Geometry) (operations : Routines) (meaning : List ℕ → ℕ → List ℕ
     → List ℕ) (state : List Held) (q : Query)
     → OffersScan operations → MeansScan meaning → AllByRecursion (IsHeld g) state
-    → length state ≤ 256 → size q ≤ 64 → checked (table_of state) (nodes_of q) ≡ None
+    → length state ≤ 256 → size q ≤ 64 → HasParts q → checked (table_of state) (nodes_of q) ≡ None
     → Scans g operations meaning state q
 
 -- the names of a scan's objects are free and of at most 16 bytes, and they differ
@@ -170,7 +170,7 @@ ScanInRows =
     (g : Geometry) (p : Program) (banks : Banks) (state : List Held) (q : Query) → 0 < g.words
     → ImplementsAll p scan_text
     → AllByRecursion (λ h. IsObject g h.object) state → Agrees g banks state → size q ≤ 64
-    → checked (table_of state) (nodes_of q) ≡ None
+    → HasParts q → checked (table_of state) (nodes_of q) ≡ None
     → scan_refused g (routines_of scan_text p) (table_of state) q ≡ None
     → FoundInRows g (routines_of scan_text p) banks state q
 
@@ -183,7 +183,7 @@ OnesAreFound = (state : List Held) (q : Query) (count size : ℕ) → count ≤ 
 -- where the checks pass, the instructions of a query are plain
 abbrev pub ScanIsPlain : Type 0
 ScanIsPlain = (g : Geometry) (table : List Named) (q : Query)
-    → All (λ named. IsObject g named.1) table → checked table (nodes_of q) ≡ None
+    → All (λ named. IsObject g named.1) table → HasParts q → checked table (nodes_of q) ≡ None
     → AllByRecursion IsPlain (scan_script table (nodes_of q))
 
 -- A query's instructions load no row and print none

@@ -1,23 +1,27 @@
 -- What the texts of queries come to.
-use Rattle.std.specs.Prelude.{◌≡◌, ℕ, ◌+◌, ◌^◌, ◌<◌, ◌≤◌, Bool, true, false, List, [], ◌∷◌, ◌++◌}
-use Rattle.std.specs.Prelude.{map, count_by, Option, Some, None, ◌↔◌, ◌⊎◌}
+use Rattle.std.specs.Prelude.{◌≡◌, ℕ, ◌+◌, ◌^◌, ◌<◌, ◌≤◌, nat_lt, nat_le, Bool, true, false, ◌||◌}
+use Rattle.std.specs.Prelude.{List, [], ◌∷◌, ◌++◌, map, count_by, reverse, Option, Some, None}
+use Rattle.std.specs.Prelude.{◌↔◌, ◌⊎◌}
 use Rattle.text_lex.specs.Spelled.{fits_name}
-use Rattle.scan_model.specs.Queries.{Query, Compare, Negate, Both, Either, size}
+use Rattle.bit_rows.specs.declared.TheConstants.{WIDTH_MAX}
+use Rattle.scan_model.specs.Queries.{Query, Compare, Negate, Both, Either, IsPart, place_of, size}
 use Rattle.scan_model.specs.declared.QueryKind.TheVariants.{Syntax, BadName, BadNumber}
 use Rattle.scan_model.specs.declared.QueryKind.TheVariants.{TooMany}
-use Rattle.scan_model.specs.Texts.{Word, Name, Number, Opens, Piece, Start, Breach, Lead, lead_text}
+use Rattle.scan_model.specs.Texts.{Word, Name, Number, Opens, OpensBits, Colon, Piece, Start}
+use Rattle.scan_model.specs.Texts.{Breach, Lead, lead_text}
 use Rattle.scan_model.specs.Texts.{tests_in, breach_of, none_begun, spelled}
 
 -- how many comparisons a query has
 abbrev pub tests : Query → ℕ
-tests (Compare op name v) = 1
+tests (Compare op operand v) = 1
 tests (Negate a) = tests a
 tests (Both a b) = tests a + tests b
 tests (Either a b) = tests a + tests b
 
--- its names and numbers fit
+-- its names, bits and numbers fit
 abbrev pub IsWritten : Query → Type 0
-IsWritten (Compare op name v) = (fits_name name ≡ true) × (v < 2 ^ 128)
+IsWritten (Compare op operand v) = (fits_name (place_of operand).name ≡ true) × IsPart operand
+    × (v < 2 ^ 128)
 IsWritten (Negate a) = IsWritten a
 IsWritten (Both a b) = IsWritten a × IsWritten b
 IsWritten (Either a b) = IsWritten a × IsWritten b
@@ -75,23 +79,30 @@ pub record BreaksName (pieces : List Piece) (at : Option ℕ) : Type 0 where
   pub viable : IsViable (before ++ Name name ∷ [])
   pub long : fits_name name ≡ false
 
--- a BadNumber fault at this place: a number may stand there, and it is too large
+-- whether a number may not stand after these tokens, of which the last comes first: after `[` it
+-- is no bit of an object, after `LO :` it does not end bits from LO on, or it is too large
+abbrev pub is_bad : List Word → ℕ → Bool
+is_bad (OpensBits ∷ words) v = nat_le WIDTH_MAX v
+is_bad (Colon ∷ Number low ∷ words) v = nat_le v low || nat_lt WIDTH_MAX v
+is_bad words v = nat_le (2 ^ 128) v
+
+-- a BadNumber fault at this place: a number may stand there, and not this one
 pub record BreaksNumber (pieces : List Piece) (at : Option ℕ) : Type 0 where
   pub before : List Word
   pub number : ℕ
   pub stands : StandsAt pieces at before (Number number)
   pub viable : IsViable (before ++ Number number ∷ [])
-  pub large : 2 ^ 128 ≤ number
+  pub bad : is_bad (reverse before) number ≡ true
 
 -- a token that each node has one of
 abbrev pub is_opening : Word → Bool
 is_opening Opens = true
 is_opening word = false
 
--- a token that each comparison has one of
-abbrev pub is_number : Word → Bool
-is_number (Number v) = true
-is_number word = false
+-- a name: each node has one, and each comparison that of its object too
+abbrev pub is_name : Word → Bool
+is_name (Name text) = true
+is_name word = false
 
 -- A TooMany fault at this place: a node begins there, and 64 have begun before it; or a comparison
 -- does, and 32 have.
@@ -101,7 +112,7 @@ pub record BreaksCount (pieces : List Piece) (at : Option ℕ) : Type 0 where
   pub stands : StandsAt pieces at before (Name (lead_text lead))
   pub viable : IsViable (before ++ Name (lead_text lead) ∷ Opens ∷ [])
   pub full : (count_by is_opening before ≡ 64)
-      ⊎ (tests_in lead ≡ 1) × (count_by is_number before ≡ 32)
+      ⊎ (tests_in lead ≡ 1) × (count_by is_name before ≡ count_by is_opening before + 32)
 
 -- A fault at a token is that of each text which goes on from these tokens: the first one decides.
 abbrev pub FirstDecides : Type 0

@@ -1,9 +1,11 @@
 -- The text of a query, token by token.
-use Rattle.std.specs.Prelude.{option_map, ℕ, ◌+◌, ◌^◌, nat_lt, nat_le, Bool, ◌&&◌, List, [], ◌∷◌}
-use Rattle.std.specs.Prelude.{◌++◌, map, Option, Some, None, Result, Ok, Err, bytes_eq, codes}
+use Rattle.std.specs.Prelude.{option_map, ℕ, ◌+◌, ◌^◌, nat_lt, nat_le, Bool, ◌&&◌}
+use Rattle.std.specs.Prelude.{List, [], ◌∷◌, ◌++◌, map, Option, Some, None, Result, Ok, Err}
+use Rattle.std.specs.Prelude.{bytes_eq, codes}
 use Rattle.std.specs.Prelude.{if◌then◌else◌}
 use Rattle.std.specs.Str.Parse.{digits_value}
-use Rattle.text_lex.specs.Lexical.{Item, Whole, Bad, items_of}
+use Rattle.bit_rows.specs.declared.TheConstants.{WIDTH_MAX}
+use Rattle.text_lex.specs.Lexical.{Item, Whole as Read, Bad, items_of}
 use Rattle.text_lex.specs.Spelled.{fits_name}
 use Rattle.text_lex.specs.declared.token.TokenKind.{TokenKind}
 use Rattle.text_lex.specs.declared.token.TokenKind.TheVariants as kinds
@@ -14,6 +16,7 @@ use Rattle.scan_model.specs.declared.QueryFault.{QueryFault}
 use Rattle.scan_model.specs.declared.QueryKind.{QueryKind}
 use Rattle.scan_model.specs.declared.QueryKind.TheVariants.{Lex, Syntax, BadName, BadNumber}
 use Rattle.scan_model.specs.declared.QueryKind.TheVariants.{TooMany}
+use Rattle.scan_model.specs.Queries.{Operand, Whole, Bit, Bits}
 use Rattle.scan_model.specs.Queries.{Query, Compare, Negate, Both, Either}
 
 -- a token as a query sees it; a Stranger is a byte that starts no token
@@ -23,6 +26,9 @@ pub data Word : Type 0 where
   Opens : Word
   Closes : Word
   Comma : Word
+  OpensBits : Word
+  Colon : Word
+  ClosesBits : Word
   Other : Word
   Stranger : Word
 
@@ -30,7 +36,10 @@ pub data Word : Type 0 where
 abbrev pub symbol_of : List ℕ → Word
 symbol_of text = if bytes_eq text (codes "(") then Opens else
     (if bytes_eq text (codes ")") then Closes else
-    (if bytes_eq text (codes ",") then Comma else Other))
+    (if bytes_eq text (codes ",") then Comma else
+    (if bytes_eq text (codes "[") then OpensBits else
+    (if bytes_eq text (codes ":") then Colon else
+    (if bytes_eq text (codes "]") then ClosesBits else Other)))))
 
 -- a token as a query sees it
 abbrev pub word_at : TokenKind → List ℕ → Word
@@ -44,7 +53,7 @@ Piece = ℕ × Word
 
 -- a token, or a byte that starts none, with its place
 abbrev pub piece_of : Item → Piece
-piece_of (Whole t) = (t.start, word_at t.kind t.text)
+piece_of (Read t) = (t.start, word_at t.kind t.text)
 piece_of (Bad f) = (f.at, Stranger)
 
 -- what a query begins with
@@ -76,18 +85,25 @@ lead_among [] text = None
 lead_among (lead ∷ leads) text = if bytes_eq text (lead_text lead) then Some lead else lead_among
     leads text
 
--- what the grammar asks for
+-- what the grammar asks for: of a comparison an object's name, and after it a comma or its bits,
+-- which begin at some bit (Low), and end there (AtLow) or at a higher one (High); then the number
 pub data Wanted : Type 0 where
   Start : Wanted
   Open : Wanted
   Object : Wanted
+  AtName : Wanted
+  Low : Wanted
+  AtLow : (low : ℕ) → Wanted
+  High : (low : ℕ) → Wanted
+  AtHigh : Wanted
+  AtBits : Wanted
   Between : Wanted
   Bound : Wanted
   Close : Wanted
 
 -- a query, after its first token
 abbrev pub wanted_after : Lead → List Wanted
-wanted_after (Compares op) = Open ∷ Object ∷ Between ∷ Bound ∷ Close ∷ []
+wanted_after (Compares op) = Open ∷ Object ∷ Close ∷ []
 wanted_after Negates = Open ∷ Start ∷ Close ∷ []
 wanted_after Ands = Open ∷ Start ∷ Between ∷ Start ∷ Close ∷ []
 wanted_after Ors = Open ∷ Start ∷ Between ∷ Start ∷ Close ∷ []
@@ -128,7 +144,16 @@ abbrev pub step : Wanted → Begun → Word → Stepped
 step w s Stranger = Err Lex
 step Start s (Name text) = started s (lead_among all_leads text)
 step Open s Opens = Ok ([], s)
-step Object s (Name text) = if fits_name text then Ok ([], s) else Err BadName
+step Object s (Name text) = if fits_name text then Ok (AtName ∷ [], s) else Err BadName
+step AtName s Comma = Ok (Bound ∷ [], s)
+step AtName s OpensBits = Ok (Low ∷ [], s)
+step Low s (Number v) = if nat_lt v WIDTH_MAX then Ok (AtLow v ∷ [], s) else Err BadNumber
+step (AtLow low) s ClosesBits = Ok (AtBits ∷ [], s)
+step (AtLow low) s Colon = Ok (High low ∷ [], s)
+step (High low) s (Number v) = if nat_lt low v && nat_le v WIDTH_MAX then Ok (AtHigh ∷ [], s)
+    else Err BadNumber
+step AtHigh s ClosesBits = Ok (AtBits ∷ [], s)
+step AtBits s Comma = Ok (Bound ∷ [], s)
 step Between s Comma = Ok ([], s)
 step Bound s (Number v) = if nat_lt v (2 ^ 128) then Ok ([], s) else Err BadNumber
 step Close s Closes = Ok ([], s)
@@ -178,10 +203,17 @@ abbrev pub fault_in : List ℕ → Option QueryFault
 fault_in text = option_map (λ b. record { line = line_of text b.at; kind = b.kind })
     (first_breach text)
 
+-- the tokens of an operand, in front of others
+abbrev pub in_front : Operand → List Word → List Word
+in_front (Whole name) rest = Name name ∷ rest
+in_front (Bit name k) rest = Name name ∷ OpensBits ∷ Number k ∷ ClosesBits ∷ rest
+in_front (Bits name low high) rest = Name name ∷ OpensBits ∷ Number low ∷ Colon ∷ Number high
+    ∷ ClosesBits ∷ rest
+
 -- the tokens of a query, in front of others
 abbrev pub spelled : Query → List Word → List Word
-spelled (Compare op name v) rest = Name (lead_text (Compares op)) ∷ Opens ∷ Name name ∷ Comma
-    ∷ Number v ∷ Closes ∷ rest
+spelled (Compare op operand v) rest = Name (lead_text (Compares op)) ∷ Opens
+    ∷ in_front operand (Comma ∷ Number v ∷ Closes ∷ rest)
 spelled (Negate a) rest = Name (codes "not") ∷ Opens ∷ spelled a (Closes ∷ rest)
 spelled (Both a b) rest = Name (codes "and") ∷ Opens
     ∷ spelled a (Comma ∷ spelled b (Closes ∷ rest))

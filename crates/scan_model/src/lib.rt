@@ -16,11 +16,12 @@ pub enum CmpOp {
     Le,
 }
 
-/// Why a scan is refused: a comparison's object is not there, has another count, or is too narrow
-/// for the number; or there is no room for an object of a node.
+/// Why a scan is refused: a comparison's object is not there, its bits end past the object, it has
+/// another count, or it is too narrow for the number; or there is no room for an object of a node.
 #[derive(Clone, Copy, PartialEq, Eq)]
 pub enum ScanWhy {
     NoObject,
+    Slice,
     Count,
     Range,
     TableFull,
@@ -36,7 +37,7 @@ pub enum QueryKind {
     Syntax,
     /// A name has more than 16 bytes.
     BadName,
-    /// A number is 2^128 or more.
+    /// A number is 2^128 or more, or no bit of an object where one is wanted.
     BadNumber,
     /// A comparison past the 32nd, or a node past the 64th.
     TooMany,

@@ -44,7 +44,7 @@ use Rattle.scan_model.specs.Laws.{scan_refused}
 use Rattle.scan_model.specs.Operations.{scan_text}
 use Rattle.scan_model.specs.Queries.{Query, Compare, Negate, Both, Either, Node, nodes_from}
 use Rattle.scan_model.specs.Queries.{nodes_of}
-use Rattle.scan_model.specs.Queries.{size}
+use Rattle.scan_model.specs.Queries.{size, HasParts}
 use Rattle.scan_model.proofs.Answered.{scan_is_plain, scans_answer}
 use Rattle.scan_model.proofs.Counted.{all_append, each_is_alone, nothing_is_moved}
 use Rattle.scan_model.proofs.Trees.{size_is, size_some}
@@ -88,7 +88,7 @@ pub plain_nodes : (m : Machine) (t : Query) (nodes : List Node) → IsLaidOut m 
     → checked (table_in m) nodes ≡ None → AllByRecursion IsPlain (scan_script (table_in m) nodes)
 plain_nodes m t nodes laid h e =
     subst (λ (ns : List Node). AllByRecursion IsPlain (scan_script (table_in m) ns))
-    (sym h.nodes_are) (scan_is_plain (geometry_of m) (table_in m) t laid.table.objects
+    (sym h.nodes_are) (scan_is_plain (geometry_of m) (table_in m) t laid.table.objects h.parts
     (ap (checked (table_in m)) (sym h.nodes_are) ∙ e))
 
 -- the answers
@@ -143,16 +143,16 @@ counts_risen g ops turn table nodes k new words fits e =
 -- the last object's ones are what is found
 pub leaves_one : (m : Machine) (banks : Banks) (t : Query) → IsLaidOut m
     → ((b : ℕ) → b < (geometry_of m).banks → length (banks b) ≡ column_count (geometry_of m))
-    → ImplementsAll (program_of m) scan_text → size t ≤ 64
+    → ImplementsAll (program_of m) scan_text → size t ≤ 64 → HasParts t
     → checked (table_in m) (nodes_of t) ≡ None
     → scan_refused (geometry_of m) (operations_by m) (table_in m) t ≡ None
     → LeavesOne (geometry_of m) (operations_by m) banks (table_in m) t
-leaves_one m banks t laid shaped impl small checks none =
+leaves_one m banks t laid shaped impl small parts checks none =
     let g = geometry_of m in
     let same = same_operations (program_of m) scan_text impl in
     subst (λ (ops : Routines). LeavesOne g ops banks (table_in m) t) same
     (scans_answer g (program_of m) banks (table_in m) t (geometry_parts g laid.shape).0 impl
-    shaped laid.table.listed laid.table.objects small checks
+    shaped laid.table.listed laid.table.objects small parts checks
     (subst (λ (ops : Routines). scan_refused g ops (table_in m) t ≡ None) (sym same) none))
 
 all_last : {X : Type 0} (P : X → Type 0) (front : List X) (x : X) → All P (front ++ x ∷ []) → P x
@@ -186,7 +186,7 @@ pub leaves : (a b : Machine) (s t : ChipView) (nodes : List Node) (q : Query) �
     → checked (table_in a) nodes ≡ None → NodesRan nodes a b s t
     → LeavesOne (geometry_of a) (operations_by a) s.banks (table_in a) q
 leaves a b s t nodes q laid shaped impl h checks ran =
-    leaves_one a s.banks q laid shaped impl h.small
+    leaves_one a s.banks q laid shaped impl h.small h.parts
     (ap (checked (table_in a)) (sym h.nodes_are) ∙ checks)
     (ap (λ (ns : List Node). refused_node a ns) (sym h.nodes_are) ∙ ran.allowed)
 

@@ -11,24 +11,30 @@ use Rattle.scan_model.specs.declared.QueryKind.TheVariants as kind
 use Rattle.scan_model.specs.Queries as query
 use Rattle.scan_model.specs.Texts as model
 use Rattle.scan_model.specs.TextLaws.{QueryTextLaws, bare_words}
+use Rattle.scan_model.proofs.Parts.{written_parts}
 use Rattle.op_text.specs.Lines.{line_of}
 use Rattle.scan_query.specs.declared.reading.ReadError.{ReadError}
 use Rattle.scan_query.specs.Parsing.{IsQueryOf}
 use Rattle.scan_query.specs.Reading.{Fails, Finds, ParserView, Reads, breach, left, start_of}
 
 -- a token after the query
-spare_case : (a b c : Bool) → model.spare (cond a model.Opens (cond b model.Closes
-    (cond c model.Comma model.Other))) ≡ kind.Syntax
-spare_case true b c = refl
-spare_case false true c = refl
-spare_case false false true = refl
-spare_case false false false = refl
+spare_case : (a b c d e f : Bool) → model.spare (cond a model.Opens (cond b model.Closes
+    (cond c model.Comma (cond d model.OpensBits (cond e model.Colon
+    (cond f model.ClosesBits model.Other)))))) ≡ kind.Syntax
+spare_case true b c d e f = refl
+spare_case false true c d e f = refl
+spare_case false false true d e f = refl
+spare_case false false false true e f = refl
+spare_case false false false false true f = refl
+spare_case false false false false false true = refl
+spare_case false false false false false false = refl
 
 spare_is : (k : TokenKind) (t : List ℕ) → model.spare (model.word_at k t) ≡ kind.Syntax
 spare_is kinds.Name t = refl
 spare_is kinds.Number t = refl
 spare_is kinds.Symbol t = spare_case (bytes_eq t (codes "(")) (bytes_eq t (codes ")"))
-    (bytes_eq t (codes ","))
+    (bytes_eq t (codes ",")) (bytes_eq t (codes "[")) (bytes_eq t (codes ":"))
+    (bytes_eq t (codes "]"))
 
 pub spare_token : (old : ParserView) (at : ℕ) (k : TokenKind) (t : List ℕ) (ps : List model.Piece)
     → old.pieces ≡ (at, model.word_at k t) ∷ ps
@@ -67,6 +73,7 @@ is_query laws text start new k before nodes empty is reads moves none nothing =
             ∙ ap (λ b. b ++ query.nodes_from (length b) reads.tree) empty
             ∙ ap query.nodes_of same;
         small = says.query.small;
+        parts = written_parts q says.query.written;
       };
     }
 

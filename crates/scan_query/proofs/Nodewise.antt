@@ -34,7 +34,7 @@ pub same_instructions : (names : List (List ℕ)) (start : List Named) (count wi
     → width ≡ width_in start node
     → instructions_for (names_in names) count width k node
     ≡ node_instructions start (free_name start) count k node
-same_instructions names start count width k (Test op name v) free l s e =
+same_instructions names start count width k (Test op place v) free l s e =
     rw (free 0 (omega arith), free (k + 1) (omega (arith, l)), e) refl
 same_instructions names start count width k (Not a) free l s e =
     rw (free (k + 1) (omega (arith, l)), free (a + 1) (omega (arith, s))) refl
@@ -120,7 +120,7 @@ all_back P (x ∷ xs) ys all = all_back P xs ys all.1
 
 five : (start : List Named) (names : ℕ → List ℕ) (count k : ℕ) (node : Node)
     → length (node_instructions start names count k node) ≤ 5
-five start names count k (Test op name v) = omega arith
+five start names count k (Test op place v) = omega arith
 five start names count k (Not a) = omega arith
 five start names count k (And a b) = omega arith
 five start names count k (Or a b) = omega arith

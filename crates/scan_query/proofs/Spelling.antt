@@ -1,10 +1,14 @@
 -- What is read spells a query.
 use Rattle.std.proofs.Common.{◌≡◌, ℕ, ◌+◌, Bool, true, false, List, [], ◌∷◌, ◌++◌, map, length}
-use Rattle.std.proofs.Common.{Result, Ok, Err, ap, ◌∙◌, arith, codes}
+use Rattle.std.proofs.Common.{Result, Ok, Err, Option, Some, None, ◌-◌, refl, sym, ap, ◌∙◌}
+use Rattle.std.proofs.Common.{arith, codes}
 use Rattle.std.proofs.Common.{append_assoc, length-append}
 use Rattle.std.specs.Result.{IfOk, OnOk}
 use Rattle.std.proofs.lemmas.List.{map-append, length-map}
 use Rattle.scan_model.specs.declared.CmpOp.{CmpOp}
+use Rattle.bbop_isa.specs.declared.instr.Part.{Part}
+use Rattle.bbop_isa.specs.declared.instr.Place.{Place}
+use Rattle.scan_model.specs.Queries.{Whole, Bit, Bits}
 use Rattle.scan_model.specs.Queries.{Compare, Negate, Query, Test, nodes_from, last_from, size}
 use Rattle.scan_model.specs.Queries as query
 use Rattle.scan_model.specs.Texts as model
@@ -12,28 +16,67 @@ use Rattle.scan_model.proofs.Trees.{size_is}
 use Rattle.scan_query.specs.declared.query.Node.{Node}
 use Rattle.scan_query.specs.declared.reading.ReadError.{ReadError}
 use Rattle.scan_query.specs.Queries.{node_of}
-use Rattle.scan_query.specs.Reading.{ParserView, Reads, join_node, join_text, left}
+use Rattle.scan_query.specs.Reading.{ParserView, Reads, SpellsPart, SpellsPlace, join_node}
+use Rattle.scan_query.specs.Reading.{join_text, left}
 
-pub test_reads : (r : Result ℕ ReadError) (op : CmpOp) (name : List ℕ) (v : ℕ)
-    (w0 w1 w2 w3 w4 : List model.Word) (new : ParserView) (before after : List Node) (node : Node)
-    → w0 ≡ model.Opens ∷ w1 → w1 ≡ model.Name name ∷ w2 → w2 ≡ model.Comma ∷ w3
-    → w3 ≡ model.Number v ∷ w4 → w4 ≡ model.Closes ∷ left new
+pub test_reads : (r : Result ℕ ReadError) (op : CmpOp) (place : Place) (v : ℕ)
+    (w0 w1 w2 w3 : List model.Word) (new : ParserView) (before after : List Node) (node : Node)
+    → w0 ≡ model.Opens ∷ w1 → SpellsPlace w1 place w2
+    → w2 ≡ model.Number v ∷ w3 → w3 ≡ model.Closes ∷ left new
     → IfOk r (λ k. k ≡ length before) → OnOk r (after ≡ before ++ node ∷ [])
-    → node_of node ≡ Test op name v
+    → node_of node ≡ Test op place v
     → IfOk r (λ k. Reads (model.Name (model.lead_text (model.Compares op)) ∷ w0) k new
     (map node_of before) (map node_of after))
-test_reads (Err e) op name v w0 w1 w2 w3 w4 new before after node a b c d e' last nodes is = tt
-test_reads (Ok k) op name v w0 w1 w2 w3 w4 new before after node a b c d e last nodes is =
+test_reads (Err e) op place v w0 w1 w2 w3 new before after node a b c d last nodes is = tt
+test_reads (Ok k) op place v w0 w1 w2 w3 new before after node a (o, means, spells) c d last nodes
+    is =
     let many = length-map before node_of in
     record {
-      tree = Compare op name v;
+      tree = Compare op o v;
       spelling = ap (λ ws. model.Name (model.lead_text (model.Compares op)) ∷ ws)
-          (a ∙ ap (λ ws. model.Opens ∷ ws) (b ∙ ap (λ ws. model.Name name ∷ ws)
-          (c ∙ ap (λ ws. model.Comma ∷ ws) (d ∙ ap (λ ws. model.Number v ∷ ws) e))));
+          (a ∙ ap (λ ws. model.Opens ∷ ws) (spells
+          ∙ ap (λ ws. model.in_front o (model.Comma ∷ ws)) (c
+          ∙ ap (λ ws. model.Number v ∷ ws) d)));
       nodes = ap (map node_of) nodes ∙ map-append node_of before (node ∷ [])
-          ∙ ap (λ n. map node_of before ++ n ∷ []) is;
+          ∙ ap (λ n. map node_of before ++ n ∷ []) (is ∙ ap (λ p. Test op p v) (sym means));
       last = omega (arith, last, many);
     }
+
+-- ---- what an operand is spelled by
+
+pub whole_part : (rest : List model.Word) → SpellsPart (model.Comma ∷ rest) None
+    (model.Comma ∷ rest)
+whole_part rest name = (Whole name, refl, refl)
+
+pub one_bit : (low : ℕ) (words rest : List model.Word) → words ≡ model.ClosesBits ∷ rest
+    → SpellsPart (model.OpensBits ∷ model.Number low ∷ words)
+    (Some (record { low = low; size = 1 })) rest
+one_bit low words rest e name =
+    (Bit name low, refl, ap (λ ws. model.Name name ∷ model.OpensBits ∷ model.Number low ∷ ws) e)
+
+pub more_bits : (low high : ℕ) (w0 w1 w2 rest : List model.Word) → w0 ≡ model.Colon ∷ w1
+    → w1 ≡ model.Number high ∷ w2 → w2 ≡ model.ClosesBits ∷ rest
+    → SpellsPart (model.OpensBits ∷ model.Number low ∷ w0)
+    (Some (record { low = low; size = high - low })) rest
+more_bits low high w0 w1 w2 rest a b c name = (
+  Bits name low high,
+  refl,
+  ap (λ ws. model.Name name ∷ model.OpensBits ∷ model.Number low ∷ ws)
+      (a ∙ ap (λ ws. model.Colon ∷ ws) (b ∙ ap (λ ws. model.Number high ∷ ws) c)),
+)
+
+-- words that are other words
+pub part_along : (words more rest then : List model.Word) (part : Option Part) → words ≡ more
+    → rest ≡ then → SpellsPart more part rest → SpellsPart words part then
+part_along words more rest then part e f h name =
+    let (o, means, spells) = h name in
+    (o, means, ap (λ ws. model.Name name ∷ ws) e ∙ spells ∙ ap (model.in_front o) f)
+
+pub place_spelled : (words mid rest : List model.Word) (name : List ℕ) (part : Option Part)
+    → words ≡ model.Name name ∷ mid → SpellsPart mid part (model.Comma ∷ rest)
+    → SpellsPlace words (record { name = name; part = part }) rest
+place_spelled words mid rest name part e h =
+    let (o, means, spells) = h name in (o, means, e ∙ spells)
 
 -- a query in front of a mark, and one node more
 pub not_reads : (r : Result ℕ ReadError) (k : ℕ) (w0 w1 w2 : List model.Word) (mid new : ParserView)

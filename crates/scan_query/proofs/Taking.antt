@@ -17,7 +17,7 @@ use Rattle.scan_query.specs.declared.reading.ReadError.{ReadError}
 use Rattle.scan_query.specs.declared.reading.Word.{Word}
 use Rattle.scan_query.specs.declared.reading.Word.TheVariants as word
 use Rattle.scan_query.specs.Digits.{are_digits, is_written}
-use Rattle.scan_query.specs.Reading.{Fails, MovesTo, ParserView, Took, breach, is_it}
+use Rattle.scan_query.specs.Reading.{Fails, MovesTo, ParserView, Took, after_mark, breach, is_it}
 use Rattle.scan_query.specs.Reading.{lead_at, wanted_by, word_view}
 
 pub fails_along : {a b : Option model.Breach} (e : ReadError) → a ≡ b → Fails b e → Fails a e
@@ -61,47 +61,62 @@ unfolding model.breach_of
 goes old new w at want front e h more = rw (e, h) refl
 
 -- the symbols
+mark_step : (m : Mark) (w : Word) (s : model.Begun)
+    → model.step (wanted_by m) s (word_view w)
+    ≡ cond (is_it m w) (Ok (after_mark m, s)) (Err kind.Syntax)
+mark_step mark.Opens (word.Name text) s = refl
+mark_step mark.Opens (word.Number digits) s = refl
+mark_step mark.Opens word.Opens s = refl
+mark_step mark.Opens word.Closes s = refl
+mark_step mark.Opens word.Comma s = refl
+mark_step mark.Opens word.OpensBits s = refl
+mark_step mark.Opens word.Colon s = refl
+mark_step mark.Opens word.ClosesBits s = refl
+mark_step mark.Opens word.Other s = refl
+mark_step mark.Closes (word.Name text) s = refl
+mark_step mark.Closes (word.Number digits) s = refl
+mark_step mark.Closes word.Opens s = refl
+mark_step mark.Closes word.Closes s = refl
+mark_step mark.Closes word.Comma s = refl
+mark_step mark.Closes word.OpensBits s = refl
+mark_step mark.Closes word.Colon s = refl
+mark_step mark.Closes word.ClosesBits s = refl
+mark_step mark.Closes word.Other s = refl
+mark_step mark.Comma (word.Name text) s = refl
+mark_step mark.Comma (word.Number digits) s = refl
+mark_step mark.Comma word.Opens s = refl
+mark_step mark.Comma word.Closes s = refl
+mark_step mark.Comma word.Comma s = refl
+mark_step mark.Comma word.OpensBits s = refl
+mark_step mark.Comma word.Colon s = refl
+mark_step mark.Comma word.ClosesBits s = refl
+mark_step mark.Comma word.Other s = refl
+mark_step mark.ClosesBits (word.Name text) s = refl
+mark_step mark.ClosesBits (word.Number digits) s = refl
+mark_step mark.ClosesBits word.Opens s = refl
+mark_step mark.ClosesBits word.Closes s = refl
+mark_step mark.ClosesBits word.Comma s = refl
+mark_step mark.ClosesBits word.OpensBits s = refl
+mark_step mark.ClosesBits word.Colon s = refl
+mark_step mark.ClosesBits word.ClosesBits s = refl
+mark_step mark.ClosesBits word.Other s = refl
+mark_step mark.EndsBits (word.Name text) s = refl
+mark_step mark.EndsBits (word.Number digits) s = refl
+mark_step mark.EndsBits word.Opens s = refl
+mark_step mark.EndsBits word.Closes s = refl
+mark_step mark.EndsBits word.Comma s = refl
+mark_step mark.EndsBits word.OpensBits s = refl
+mark_step mark.EndsBits word.Colon s = refl
+mark_step mark.EndsBits word.ClosesBits s = refl
+mark_step mark.EndsBits word.Other s = refl
+
 pub mark_right : (m : Mark) (w : Word) (s : model.Begun) → is_it m w ≡ true
-    → model.step (wanted_by m) s (word_view w) ≡ Ok ([], s)
-mark_right mark.Opens (word.Name text) s e = cc
-mark_right mark.Opens (word.Number digits) s e = cc
-mark_right mark.Opens word.Opens s e = refl
-mark_right mark.Opens word.Closes s e = cc
-mark_right mark.Opens word.Comma s e = cc
-mark_right mark.Opens word.Other s e = cc
-mark_right mark.Closes (word.Name text) s e = cc
-mark_right mark.Closes (word.Number digits) s e = cc
-mark_right mark.Closes word.Opens s e = cc
-mark_right mark.Closes word.Closes s e = refl
-mark_right mark.Closes word.Comma s e = cc
-mark_right mark.Closes word.Other s e = cc
-mark_right mark.Comma (word.Name text) s e = cc
-mark_right mark.Comma (word.Number digits) s e = cc
-mark_right mark.Comma word.Opens s e = cc
-mark_right mark.Comma word.Closes s e = cc
-mark_right mark.Comma word.Comma s e = refl
-mark_right mark.Comma word.Other s e = cc
+    → model.step (wanted_by m) s (word_view w) ≡ Ok (after_mark m, s)
+mark_right m w s e = mark_step m w s ∙ ap (λ b. cond b (Ok (after_mark m, s)) (Err kind.Syntax)) e
 
 pub mark_wrong : (m : Mark) (w : Word) (s : model.Begun) → is_it m w ≡ false
     → model.step (wanted_by m) s (word_view w) ≡ Err kind.Syntax
-mark_wrong mark.Opens (word.Name text) s e = refl
-mark_wrong mark.Opens (word.Number digits) s e = refl
-mark_wrong mark.Opens word.Opens s e = cc
-mark_wrong mark.Opens word.Closes s e = refl
-mark_wrong mark.Opens word.Comma s e = refl
-mark_wrong mark.Opens word.Other s e = refl
-mark_wrong mark.Closes (word.Name text) s e = refl
-mark_wrong mark.Closes (word.Number digits) s e = refl
-mark_wrong mark.Closes word.Opens s e = refl
-mark_wrong mark.Closes word.Closes s e = cc
-mark_wrong mark.Closes word.Comma s e = refl
-mark_wrong mark.Closes word.Other s e = refl
-mark_wrong mark.Comma (word.Name text) s e = refl
-mark_wrong mark.Comma (word.Number digits) s e = refl
-mark_wrong mark.Comma word.Opens s e = refl
-mark_wrong mark.Comma word.Closes s e = refl
-mark_wrong mark.Comma word.Comma s e = cc
-mark_wrong mark.Comma word.Other s e = refl
+mark_wrong m w s e = mark_step m w s ∙ ap (λ b. cond b (Ok (after_mark m, s)) (Err kind.Syntax)) e
 
 -- the numbers of a text are digits
 written : (k : TokenKind) (t : List ℕ) → is_token k t ≡ true → is_written k t ≡ true
@@ -129,6 +144,9 @@ start_is (word.Number digits) s found e = ap (model.started s) e
 start_is word.Opens s found e = ap (model.started s) e
 start_is word.Closes s found e = ap (model.started s) e
 start_is word.Comma s found e = ap (model.started s) e
+start_is word.OpensBits s found e = ap (model.started s) e
+start_is word.Colon s found e = ap (model.started s) e
+start_is word.ClosesBits s found e = ap (model.started s) e
 start_is word.Other s found e = ap (model.started s) e
 
 fits_case : (s : model.Begun) (l : model.Lead) (b : Bool)
@@ -168,9 +186,10 @@ start_wrong w old mid at took found more =
     breaks old mid (word_view w) at model.Start kind.Syntax took.pieces
     (start_is w old.begun None found) more
 
--- a word after which nothing is wanted in its place
+-- a word, and what is wanted after it
 pub token_goes : (w : model.Word) (old new : ParserView) (at : ℕ) (want : model.Wanted)
-    → Took w at old new → model.step want old.begun w ≡ Ok ([], old.begun)
-    → (more : List model.Wanted) → breach (want ∷ more) old ≡ breach more new
-token_goes w old new at want took e more = goes old new w at want [] took.pieces
-    (e ∙ ap (λ s. Ok ([], s)) (sym took.begun)) more
+    (front : List model.Wanted) → Took w at old new
+    → model.step want old.begun w ≡ Ok (front, old.begun)
+    → (more : List model.Wanted) → breach (want ∷ more) old ≡ breach (front ++ more) new
+token_goes w old new at want front took e more = goes old new w at want front took.pieces
+    (e ∙ ap (λ s. Ok (front, s)) (sym took.begun)) more

@@ -1,6 +1,9 @@
 -- What a function that reads a query's tokens answers.
 use Rattle.std.specs.Prelude.{◌≡◌, ℕ, Bool, true, false, List, [], ◌∷◌, ◌++◌, map, Option, Some}
-use Rattle.std.specs.Prelude.{None, Result, Ok, Err, codes, length}
+use Rattle.std.specs.Prelude.{None, Result, Ok, Err, is_ok, codes, length}
+use Rattle.bbop_isa.specs.declared.instr.Part.{Part}
+use Rattle.bbop_isa.specs.declared.instr.Place.{Place}
+use Rattle.scan_model.specs.Queries.{Operand, place_of}
 use Rattle.scan_model.specs.Queries.{Node, And, Or, Query, nodes_from, last_from}
 use Rattle.std.specs.Char.{is_ascii_digit}
 use Rattle.std.specs.List.{AllPass}
@@ -25,6 +28,9 @@ word_view (word.Number digits) = model.Number (digits_value 10 digits.now)
 word_view word.Opens = model.Opens
 word_view word.Closes = model.Closes
 word_view word.Comma = model.Comma
+word_view word.OpensBits = model.OpensBits
+word_view word.Colon = model.Colon
+word_view word.ClosesBits = model.ClosesBits
 word_view word.Other = model.Other
 
 -- what a number is read of are digits
@@ -34,6 +40,9 @@ IsNumber (word.Number digits) = AllPass is_ascii_digit digits.now
 IsNumber word.Opens = Unit {0}
 IsNumber word.Closes = Unit {0}
 IsNumber word.Comma = Unit {0}
+IsNumber word.OpensBits = Unit {0}
+IsNumber word.Colon = Unit {0}
+IsNumber word.ClosesBits = Unit {0}
 IsNumber word.Other = Unit {0}
 
 -- the beginning of a query, as the definitions have it
@@ -54,6 +63,9 @@ lead_at (word.Number digits) = None
 lead_at word.Opens = None
 lead_at word.Closes = None
 lead_at word.Comma = None
+lead_at word.OpensBits = None
+lead_at word.Colon = None
+lead_at word.ClosesBits = None
 lead_at word.Other = None
 
 -- where the grammar wants this symbol
@@ -61,33 +73,28 @@ abbrev pub wanted_by : Mark → model.Wanted
 wanted_by mark.Opens = model.Open
 wanted_by mark.Closes = model.Close
 wanted_by mark.Comma = model.Between
+wanted_by mark.ClosesBits = model.AtHigh
+wanted_by mark.EndsBits = model.AtBits
+
+-- what is wanted after this symbol
+abbrev pub after_mark : Mark → List model.Wanted
+after_mark mark.Opens = []
+after_mark mark.Closes = []
+after_mark mark.Comma = []
+after_mark mark.ClosesBits = model.AtBits ∷ []
+after_mark mark.EndsBits = model.Bound ∷ []
 
 -- the token that this symbol is
 abbrev pub word_by : Mark → model.Word
 word_by mark.Opens = model.Opens
 word_by mark.Closes = model.Closes
 word_by mark.Comma = model.Comma
+word_by mark.ClosesBits = model.ClosesBits
+word_by mark.EndsBits = model.Comma
 
--- whether a token is this symbol
+-- whether a token is this symbol: it may stand where the symbol is wanted
 abbrev pub is_it : Mark → Word → Bool
-is_it mark.Opens (word.Name text) = false
-is_it mark.Opens (word.Number digits) = false
-is_it mark.Opens word.Opens = true
-is_it mark.Opens word.Closes = false
-is_it mark.Opens word.Comma = false
-is_it mark.Opens word.Other = false
-is_it mark.Closes (word.Name text) = false
-is_it mark.Closes (word.Number digits) = false
-is_it mark.Closes word.Opens = false
-is_it mark.Closes word.Closes = true
-is_it mark.Closes word.Comma = false
-is_it mark.Closes word.Other = false
-is_it mark.Comma (word.Name text) = false
-is_it mark.Comma (word.Number digits) = false
-is_it mark.Comma word.Opens = false
-is_it mark.Comma word.Closes = false
-is_it mark.Comma word.Comma = true
-is_it mark.Comma word.Other = false
+is_it m w = is_ok (model.step (wanted_by m) model.none_begun (word_view w))
 
 -- what has begun, and the words that are left
 pub record ParserView : Type 0 where
@@ -168,3 +175,14 @@ join_node false a b = Or a b
 abbrev pub join_text : Bool → List ℕ
 join_text true = codes "and"
 join_text false = codes "or"
+
+-- After any name, these words spell this part of an object, and then the rest.
+abbrev pub SpellsPart : List model.Word → Option Part → List model.Word → Type 0
+SpellsPart words part rest = (name : List ℕ) → (o : Operand)
+    × (place_of o ≡ record { name = name; part = part })
+    × (model.Name name ∷ words ≡ model.in_front o rest)
+
+-- These words spell this operand with a comma after it, and then the rest.
+abbrev pub SpellsPlace : List model.Word → Place → List model.Word → Type 0
+SpellsPlace words place rest = (o : Operand) × (place_of o ≡ place)
+    × (words ≡ model.in_front o (model.Comma ∷ rest))

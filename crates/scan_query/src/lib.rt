@@ -6,6 +6,7 @@ mod lines;
 mod names;
 mod nodes;
 mod ones;
+mod operand;
 mod ops;
 mod parse;
 mod parser;

@@ -10,21 +10,21 @@ ghost use Rattle.scan_model.specs.Instructions.{op_for, sources_for};
 ghost use Rattle.scan_query.specs.Queries.{instructions_for, node_of, names_in, sources_fit};
 ghost use Rattle.scan_query.specs.Queries.{width_in};
 
-use crate::checks::object_named;
 use crate::ops::named;
 use crate::query::Node;
 use arrayvec::ArrayVec;
 use bbop_isa::{Instr, Place};
 use object_alloc::Table;
+use object_steps::rows_of;
 use scan_model::CmpOp;
 use text_lex::Name;
 
-/// The width of a comparison's object, and of a join's bits.
+/// How many bits a comparison looks at, and how wide a join's bits are.
 fn width_of(table: &Table, node: &Node) -> u8
     ensures { result ≡ width_in table.now.pairs (node_of node.now) }
 {
     match node {
-        Node::Cmp { name, .. } => object_named(table, name).width,
+        Node::Cmp { place, .. } => rows_of(table, place).width,
         _ => 1,
     }
 }
@@ -63,13 +63,23 @@ fn whole(name: &Name) -> Place
     }
 }
 
+/// The same operand again.
+fn copied(place: &Place) -> Place
+    ensures { result ≡ place.now }
+{
+    Place {
+        name: place.name.copied(),
+        part: place.part,
+    }
+}
+
 /// Two operands, in this order.
-fn two(a: &Name, b: &Name) -> ArrayVec<Place, 5>
-    ensures { result.items ≡ whole a.now ∷ whole b.now ∷ [] }
+fn two(a: Place, b: Place) -> ArrayVec<Place, 5>
+    ensures { result.items ≡ a ∷ b ∷ [] }
 {
     let mut places = ArrayVec::new();
-    places.push(whole(a));
-    places.push(whole(b));
+    places.push(a);
+    places.push(b);
     places
 }
 
@@ -82,17 +92,17 @@ fn one(a: &Name) -> ArrayVec<Place, 5>
     places
 }
 
-/// The object and what it is compared with, in the order of the comparison.
-fn sources_for(op: CmpOp, name: &Name, bound: &Name) -> ArrayVec<Place, 5>
-    ensures { result.items ≡ sources_for op (whole name.now) (whole bound.now) }
+/// What is compared and the object with the number, in the order of the comparison.
+fn sources_for(op: CmpOp, place: &Place, bound: &Name) -> ArrayVec<Place, 5>
+    ensures { result.items ≡ sources_for op place.now (whole bound.now) }
 {
     match op {
-        CmpOp::Eq | CmpOp::Gt | CmpOp::Ge => two(name, bound),
-        CmpOp::Lt | CmpOp::Le => two(bound, name),
+        CmpOp::Eq | CmpOp::Gt | CmpOp::Ge => two(copied(place), whole(bound)),
+        CmpOp::Lt | CmpOp::Le => two(whole(bound), copied(place)),
     }
 }
 
-/// How many elements each object of a scan has, and how wide the object of a comparison is.
+/// How many elements each object of a scan has, and how many bits a comparison looks at.
 #[derive(Clone, Copy)]
 pub(crate) struct Size {
     pub count: u32,
@@ -102,7 +112,7 @@ pub(crate) struct Size {
 /// An instruction of a comparison, into the result of this name.
 fn compare(
     op: CmpOp,
-    name: &Name,
+    place: &Place,
     value: u128,
     bound: &Name,
     outcome: &Name,
@@ -110,8 +120,8 @@ fn compare(
     i: u8,
 ) -> Option<Instr>
     ensures value { option_map view_of result
-        ≡ slice_get (compare_with bound.now outcome.now (whole name.now) op
-        value size.count size.width) i }
+        ≡ slice_get (compare_with bound.now outcome.now place.now op value size.count
+        size.width) i }
     ensures silent { IfSome result (λ instr. is_print (view_of instr) ≡ false) }
 {
     let Size { count, width } = size;
@@ -133,7 +143,7 @@ fn compare(
         3 => Some(Instr::Bbop {
             op: op_for(op),
             dst: whole(outcome),
-            srcs: sources_for(op, name, bound),
+            srcs: sources_for(op, place, bound),
             count,
             n: width,
         }),
@@ -186,7 +196,7 @@ fn join(op: &[u8], a: &Name, b: &Name, outcome: &Name, count: u32, i: u8) -> Opt
         1 => Some(Instr::Bbop {
             op: named(op),
             dst: whole(outcome),
-            srcs: two(a, b),
+            srcs: two(whole(a), whole(b)),
             count,
             n: 1,
         }),
@@ -207,7 +217,7 @@ pub(crate) fn instruction(node: &Node, names: &[Name], size: Size, k: u8, i: u8)
 {
     let outcome = &names[usize::from(k) + 1];
     match node {
-        Node::Cmp { op, name, value } => compare(*op, name, *value, &names[0], outcome, size, i),
+        Node::Cmp { op, place, value } => compare(*op, place, *value, &names[0], outcome, size, i),
         Node::Not(a) => negate(&names[usize::from(*a) + 1], outcome, size.count, i),
         Node::And(a, b) => {
             let (a, b) = (&names[usize::from(*a) + 1], &names[usize::from(*b) + 1]);

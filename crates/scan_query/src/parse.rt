@@ -10,9 +10,10 @@ ghost use Rattle.scan_query.specs.Queries.{node_of};
 ghost use Rattle.scan_query.specs.Reading.{Finds, Moves, Reads, join_node, join_text, left, seen};
 
 use crate::lines::line_of;
+use crate::operand::operand;
 use crate::parser::Parser;
 use crate::query::{Node, Query, QueryNo};
-use crate::reading::{Lead, Mark, ReadError, begins, bound, ends, object, start, symbol};
+use crate::reading::{Lead, Mark, ReadError, begins, bound, ends, start, symbol};
 use scan_model::{CmpOp, QueryFault, texts_spell_queries};
 use std::alloc::Global;
 
@@ -44,11 +45,10 @@ fn test(parser: &mut Parser<'_>, op: CmpOp, nodes: &mut Vec<Node>) -> Result<u8,
         ≤ length (left (seen parser.old))) }
 {
     symbol(parser, Mark::Opens)?;
-    let name = object(parser)?;
-    symbol(parser, Mark::Comma)?;
+    let place = operand(parser)?;
     let value = bound(parser)?;
     symbol(parser, Mark::Closes)?;
-    push(nodes, Node::Cmp { op, name, value })
+    push(nodes, Node::Cmp { op, place, value })
 }
 
 fn join_of(both: bool, a: u8, b: u8) -> Node

@@ -1,13 +1,18 @@
 //! Queries as lists of nodes, and what a scan answers.
 
+use bbop_isa::Place;
 use scan_model::{CmpOp, QueryFault, ScanWhy};
-use text_lex::Name;
 use uprog_code::Counts;
 
-/// A node of a query. A join names its sources by their places among the nodes.
+/// A node of a query. A comparison looks at an object, or at bits of it. A join names its sources
+/// by their places among the nodes.
 #[derive(Drop)]
 pub enum Node {
-    Cmp { op: CmpOp, name: Name, value: u128 },
+    Cmp {
+        op: CmpOp,
+        place: Place,
+        value: u128,
+    },
     Not(u8),
     And(u8, u8),
     Or(u8, u8),

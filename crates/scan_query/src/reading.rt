@@ -10,14 +10,14 @@ ghost use Rattle.scan_model.specs.Texts as model;
 ghost use Rattle.scan_query.specs.declared.reading.ReadError.TheVariants as stop;
 ghost use Rattle.scan_query.specs.Reading.{Finds, IsNumber, Moves};
 ghost use Rattle.scan_query.specs.Reading.{MovesTo, Takes, breach, start_of};
-ghost use Rattle.scan_query.specs.Reading.{begun_by, after_lead, is_it};
+ghost use Rattle.scan_query.specs.Reading.{after_lead, after_mark, begun_by, is_it};
 ghost use Rattle.scan_query.specs.Reading.{lead_at, lead_of, left, seen};
 ghost use Rattle.scan_query.specs.Reading.{wanted_by, word_by, word_view};
 
 use crate::parser::Parser;
 use scan_model::{CmpOp, QueryKind};
 use std::alloc::AllocFailed;
-use text_lex::{Lexer, Name, Token, TokenKind, items_are_right, number};
+use text_lex::{Lexer, Token, TokenKind, items_are_right, number};
 
 /// Why reading ends early.
 #[derive(Drop)]
@@ -43,15 +43,24 @@ pub(crate) enum Word<'a> {
     Opens,
     Closes,
     Comma,
+    /// `[`
+    OpensBits,
+    Colon,
+    /// `]`
+    ClosesBits,
     Other,
 }
 
-/// A token that is a symbol.
+/// A token that is a symbol, by what it stands behind.
 #[derive(Clone, Copy)]
 pub(crate) enum Mark {
     Opens,
     Closes,
     Comma,
+    /// `]` after two numbers.
+    ClosesBits,
+    /// The comma after `]`.
+    EndsBits,
 }
 
 /// What a query begins with.
@@ -91,6 +100,12 @@ fn symbol_of<'a>(text: &'a [u8]) -> Word<'a>
         Word::Closes
     } else if text == b",".as_slice() {
         Word::Comma
+    } else if text == b"[".as_slice() {
+        Word::OpensBits
+    } else if text == b":".as_slice() {
+        Word::Colon
+    } else if text == b"]".as_slice() {
+        Word::ClosesBits
     } else {
         Word::Other
     }
@@ -109,7 +124,7 @@ fn word_of(token: Token<'_>) -> Word<'_>
 }
 
 /// The next token.
-fn next<'a>(parser: &mut Parser<'a>) -> Result<Taken<'a>, ReadError>
+pub(crate) fn next<'a>(parser: &mut Parser<'a>) -> Result<Taken<'a>, ReadError>
     ensures takes { Takes (seen parser.old) result (seen parser.new) }
     ensures number { IfOk result (λ t. IsNumber t.word) }
 {
@@ -131,13 +146,15 @@ fn is_it(mark: Mark, word: Word<'_>) -> bool
     match mark {
         Mark::Opens => matches!(word, Word::Opens),
         Mark::Closes => matches!(word, Word::Closes),
-        Mark::Comma => matches!(word, Word::Comma),
+        Mark::Comma | Mark::EndsBits => matches!(word, Word::Comma),
+        Mark::ClosesBits => matches!(word, Word::ClosesBits),
     }
 }
 
 /// This symbol.
 pub(crate) fn symbol(parser: &mut Parser<'_>, mark: Mark) -> Result<(), ReadError>
-    ensures moves { Moves (wanted_by mark ∷ []) (seen parser.old) result (seen parser.new) }
+    ensures moves { MovesTo (wanted_by mark ∷ []) (seen parser.old) result (λ _. after_mark mark)
+        (seen parser.new) }
     ensures spells { OnOk result (left (seen parser.old) ≡ word_by mark ∷ left (seen parser.new)) }
     ensures nodes { OnOk result (parser.new.nodes ≡ parser.old.nodes) }
 {
@@ -182,6 +199,9 @@ fn lead_at(word: Word<'_>) -> Option<Lead>
         Word::Opens => None,
         Word::Closes => None,
         Word::Comma => None,
+        Word::OpensBits => None,
+        Word::Colon => None,
+        Word::ClosesBits => None,
         Word::Other => None,
     }
 }
@@ -235,40 +255,6 @@ pub(crate) fn begins(parser: &mut Parser<'_>) -> Result<Lead, ReadError>
     }
 }
 
-fn name_at(word: Word<'_>) -> Result<Name, QueryKind>
-    ensures word { IfOk result (λ name. word_view word.entry ≡ model.Name name) }
-    ensures step { IfOk result (λ name. (s : model.Begun)
-        → model.step model.Object s (word_view word.entry) ≡ Ok ([], s)) }
-    ensures breaks { IfErr result (λ kind. (s : model.Begun)
-        → model.step model.Object s (word_view word.entry) ≡ Err kind) }
-{
-    match word {
-        Word::Name(text) => match Name::new(text) {
-            Some(name) => Ok(name),
-            None => Err(QueryKind::BadName),
-        },
-        Word::Number(_) => Err(QueryKind::Syntax),
-        Word::Opens => Err(QueryKind::Syntax),
-        Word::Closes => Err(QueryKind::Syntax),
-        Word::Comma => Err(QueryKind::Syntax),
-        Word::Other => Err(QueryKind::Syntax),
-    }
-}
-
-/// A name.
-pub(crate) fn object(parser: &mut Parser<'_>) -> Result<Name, ReadError>
-    ensures moves { Moves (model.Object ∷ []) (seen parser.old) result (seen parser.new) }
-    ensures spells { IfOk result (λ name. left (seen parser.old)
-        ≡ model.Name name ∷ left (seen parser.new)) }
-    ensures nodes { OnOk result (parser.new.nodes ≡ parser.old.nodes) }
-{
-    let token = next(parser)?;
-    match name_at(token.word) {
-        Ok(name) => Ok(name),
-        Err(kind) => Err(ReadError::Breach(Some(token.at), kind)),
-    }
-}
-
 fn value_at(word: Word<'_>) -> Result<u128, QueryKind>
     requires { IsNumber word }
     ensures word { IfOk result (λ v. word_view word.entry ≡ model.Number v) }
@@ -286,6 +272,9 @@ fn value_at(word: Word<'_>) -> Result<u128, QueryKind>
         Word::Opens => Err(QueryKind::Syntax),
         Word::Closes => Err(QueryKind::Syntax),
         Word::Comma => Err(QueryKind::Syntax),
+        Word::OpensBits => Err(QueryKind::Syntax),
+        Word::Colon => Err(QueryKind::Syntax),
+        Word::ClosesBits => Err(QueryKind::Syntax),
         Word::Other => Err(QueryKind::Syntax),
     }
 }

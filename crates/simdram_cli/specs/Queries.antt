@@ -47,6 +47,7 @@ AsksIn (Some text) q = Asks text q
 -- the word for why a scan is refused
 abbrev pub scan_word : ScanWhy → List ℕ
 scan_word reasons.NoObject = codes "no_object"
+scan_word reasons.Slice = codes "slice"
 scan_word reasons.Count = codes "count"
 scan_word reasons.Range = codes "range"
 scan_word reasons.TableFull = codes "table_full"

@@ -259,6 +259,7 @@ fn refused_front(why: ScanWhy) -> &'static [u8]
 {
     match why {
         ScanWhy::NoObject => b"query refused no_object ",
+        ScanWhy::Slice => b"query refused slice ",
         ScanWhy::Count => b"query refused count ",
         ScanWhy::Range => b"query refused range ",
         ScanWhy::TableFull => b"query refused table_full ",

@@ -14,6 +14,7 @@ ghost use Rattle.uprog_gen.specs.Entries.{AreFronts};
 
 use crate::layout::lay_out;
 use crate::ops::Lowered;
+use block_lower::Searched;
 use faults::keep;
 use loop_front::front;
 use loop_ir::{LoopProgram, NameMap};
@@ -34,7 +35,12 @@ fn is_flow(s: &Stmt) -> bool
 }
 
 /// The loop program of a statement.
-fn lower_statement(s: &Stmt, names: &NameMap, alloc: Global) -> Result<LoopProgram, NoMemory>
+fn lower_statement(
+    s: &Stmt,
+    names: &NameMap,
+    searched: &mut Searched,
+    alloc: Global,
+) -> Result<LoopProgram, NoMemory>
     requires meets { StatementMeets (slots_of names.now) (statement s.now) }
     requires placed { IsPlaced (slots_of names.now) names.now.free_bit names.now.free_word
         (statement s.now) }
@@ -47,14 +53,14 @@ fn lower_statement(s: &Stmt, names: &NameMap, alloc: Global) -> Result<LoopProgr
     if is_flow(s) {
         lower_flow(s, names, alloc)
     } else {
-        lower_linear(s, names, alloc)
+        lower_linear(s, names, searched, alloc)
     }
 }
 
 /// The places of an operation's names, and the flows of its statements.
 ///
 /// It is an `Err` only where it runs out of memory.
-pub fn lower(op: &Op, alloc: Global) -> Result<Lowered, NoMemory>
+pub fn lower(op: &Op, searched: &mut Searched, alloc: Global) -> Result<Lowered, NoMemory>
     requires meets { OperationMeets (operation op.now) }
     ensures names { IfOk result (λ l. IsLayoutMap (operation op.now) l.names) }
     ensures fronts { IfOk result (λ l. AreFronts (slots_of l.names) l.names.free_bit
@@ -63,7 +69,7 @@ pub fn lower(op: &Op, alloc: Global) -> Result<Lowered, NoMemory>
     let names = lay_out(op, alloc)?;
     let mut flows = Vec::new(alloc);
     for s in &op.body {
-        let program = lower_statement(s, &names, alloc)?;
+        let program = lower_statement(s, &names, searched, alloc)?;
         let flow = front(program, alloc)?;
         keep(&mut flows, flow)?;
     }

@@ -15,6 +15,7 @@ use crate::entry::compile_entry;
 use crate::graphs::take_graphs;
 use crate::head::head_of;
 use crate::lowering::lower;
+use block_lower::Searched;
 use faults::keep;
 use loop_ir::{Flow, NameMap};
 use mig_graph::{MigOuts, NoMemory};
@@ -40,14 +41,19 @@ pub struct Compiled {
 
 /// The code of an operation that meets the rules, and after other graphs those of its serial
 /// blocks.
-fn compile_op(op: &Op, graphs: &mut Vec<MigOuts>, alloc: Global) -> Result<EntryCode, NoMemory>
+fn compile_op(
+    op: &Op,
+    graphs: &mut Vec<MigOuts>,
+    searched: &mut Searched,
+    alloc: Global,
+) -> Result<EntryCode, NoMemory>
     requires meets { OperationMeets (operation op.now) }
     ensures compiled { IfOk result (λ entry.
         IsCompiled (microprogram_of entry) (operation op.now)) }
     ensures graphs { IfOk result (λ entry. AddsGraphs (microprogram_of entry) (operation op.now)
         (map graphed_of graphs.old.items) (map graphed_of graphs.new.items)) }
 {
-    let lowered = lower(op, alloc)?;
+    let lowered = lower(op, searched, alloc)?;
     let entry = compile_entry(head_of(op, &lowered.names), &lowered.flows, alloc)?;
     take_graphs(op, lowered, graphs)?;
     Ok(entry)
@@ -63,8 +69,9 @@ fn compile_each(ops: &[Op], alloc: Global) -> Result<Compiled, NoMemory>
 {
     let mut entries = Vec::new(alloc);
     let mut graphs = Vec::new(alloc);
+    let mut searched = Searched::new(alloc);
     for op in ops {
-        let entry = compile_op(op, &mut graphs, alloc)?;
+        let entry = compile_op(op, &mut graphs, &mut searched, alloc)?;
         keep(&mut entries, entry)?;
     }
     Ok(Compiled {

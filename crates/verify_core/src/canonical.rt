@@ -12,9 +12,8 @@ use uprog_code::{Binding, Head, Kind};
 
 /// How many rows the results take.
 pub fn rows_of_results(head: &Head, n: u8) -> u16
-    requires { n ≤ 128 }
     ensures value { result ≡ result_rows (shape_of head.now) n }
-    ensures small { result ≤ 256 }
+    ensures small { result ≤ 2 * n }
 {
     if head.second.is_some() {
         2 * u16::from(n)

@@ -6,6 +6,7 @@ mod case;
 mod check;
 mod compare;
 mod fresh;
+mod last;
 mod run;
 mod start;
 mod tries;

@@ -1,4 +1,4 @@
-//! Numbers that are tried before the diagrams: a plain failure shows at once.
+//! Numbers that are tried: a plain failure shows at once.
 
 ghost use Rattle.std.specs.Prelude.{◌≡◌, ◌≢◌, ◌+◌, ◌<◌, ◌≤◌, ℕ, List, IfOk, IfSome, Err, false};
 ghost use Rattle.uprog_code.specs.Machine.{HasEnded, trace, issues_of};
@@ -18,7 +18,7 @@ use bdd::{Diagram, NoMemory, Shortage};
 use bit_rows::{Value, WIDTH_MAX};
 use faults::keep;
 use std::alloc::Global;
-use uprog_code::Fetch;
+use uprog_code::{Fetch, Head};
 
 /// How many numbers are corners: 0, 1, all ones, the top bit and every other bit.
 const CORNERS: u32 = 5;
@@ -77,31 +77,36 @@ fn tried_bit(attempt: u32, sources: u32, source: u32, bit: u32, n: u32) -> bool 
     corner_bit(corner, bit, n)
 }
 
-/// The value of the variable at a place of a bank with so many rows of results, in an attempt.
-fn tried_value(attempt: u32, n: u32, sources: u32, results: u32, row: u32) -> bool {
+/// The bit at a place of a bank with so many rows of results, in an attempt, where it is one of a
+/// source.
+fn source_bit(attempt: u32, n: u32, sources: u32, results: u32, row: u32) -> Option<bool> {
     if row < results {
-        return false;
+        return None;
     }
     let k = row - results;
     if sources == 0 || k / sources >= n {
-        return false;
+        return None;
     }
-    tried_bit(attempt, sources, k % sources, k / sources, n)
+    Some(tried_bit(attempt, sources, k % sources, k / sources, n))
 }
 
-/// The values of so many variables in an attempt: the bits of the sources, and 0 for the others.
+/// The values of so many variables in an attempt: the bits of the sources, and `others` for the
+/// others.
 fn assignment(
     attempt: u32,
+    others: bool,
+    head: &Head,
     n: u8,
-    sources: u32,
-    results: u16,
-    rows: u16,
     alloc: Global,
-) -> Result<Vec<bool>, NoMemory> {
-    let mut values = vec![in alloc; false; 6]?;
-    for row in 0..u32::from(rows) {
-        let value = tried_value(attempt, u32::from(n), sources, u32::from(results), row);
-        keep(&mut values, value)?;
+) -> Result<Vec<bool>, NoMemory>
+    requires { n ≤ WIDTH_MAX }
+{
+    let sources = head.sources.as_slice().len() as u32;
+    let results = u32::from(rows_of_results(head, n));
+    let mut values = vec![in alloc; others; 6]?;
+    for row in 0..u32::from(canonical_bank(head, n)) {
+        let bit = source_bit(attempt, u32::from(n), sources, results, row);
+        keep(&mut values, bit.unwrap_or(others))?;
     }
     Ok(values)
 }
@@ -113,8 +118,15 @@ fn are_equal(a: &[Value], b: &[Value]) -> bool
     a == b
 }
 
+/// A case, and the assignment under which it is one.
+#[derive(Drop)]
+pub(crate) struct Tried {
+    pub path: Vec<bool>,
+    pub case: Case,
+}
+
 /// The case of an assignment, if the two give different numbers under it.
-fn case_under<F: Fetch, G: Fetch>(
+pub(crate) fn case_under<F: Fetch, G: Fetch>(
     path: &[bool],
     own: &F,
     made: &G,
@@ -154,14 +166,15 @@ fn case_under<F: Fetch, G: Fetch>(
     }
 }
 
-/// A case among the attempts, which all have the other cells at 0.
+/// A case among the attempts, which all have this value in the other cells.
 pub(crate) fn tried_case<F: Fetch, G: Fetch>(
+    others: bool,
     own: &F,
     made: &G,
     n: u8,
     diagram: &mut Diagram,
     alloc: Global,
-) -> Result<Option<Case>, Shortage>
+) -> Result<Option<Tried>, Shortage>
     requires nodes { AreNodes diagram.old.nodes }
     requires own_legal { IsLegalCode (F.shape own.now) (F.code own.now) }
     requires made_legal { IsLegalCode (G.shape made.now) (G.code made.now) }
@@ -174,24 +187,22 @@ pub(crate) fn tried_case<F: Fetch, G: Fetch>(
         ≤ diagram.old.limits.variables }
     requires made_variables { 6 + canonical_rows (G.shape made.now) n
         ≤ diagram.old.limits.variables }
-    ensures fails { IfOk result (λ o. IfSome o (λ case. (meaning : List ℕ → List ℕ)
+    ensures fails { IfOk result (λ o. IfSome o (λ t. (meaning : List ℕ → List ℕ)
         → Gives (G.shape made.now) n (issues_of (trace (G.shape made.now) (G.code made.now) n))
         meaning → Fails (F.shape own.now) n
-        (issues_of (trace (F.shape own.now) (F.code own.now) n)) meaning case)) }
+        (issues_of (trace (F.shape own.now) (F.code own.now) n)) meaning t.case)) }
     ensures nodes { AreNodes diagram.new.nodes }
     ensures limits { diagram.new.limits ≡ diagram.old.limits }
     ensures reached { (s : Shortage) → result ≡ Err s → HasReached s diagram.new }
 {
     let head = own.head();
     let sources = head.sources.as_slice().len() as u32;
-    let results = rows_of_results(&head, n);
-    let rows = canonical_bank(&head, n);
     for k in 0..attempts(sources) {
-        let Ok(path) = assignment(k, n, sources, results, rows, alloc) else {
+        let Ok(path) = assignment(k, others, &head, n, alloc) else {
             return Err(Shortage::NoMemory);
         };
         if let Some(case) = case_under(&path, own, made, n, diagram, alloc)? {
-            return Ok(Some(case));
+            return Ok(Some(Tried { path, case }));
         }
     }
     Ok(None)

@@ -16,6 +16,7 @@ ghost use Rattle.verify_core.specs.Verdicts.{fresh};
 use crate::canonical::kinds_of_results;
 use crate::case::Case;
 use crate::check::failing_case;
+use crate::last::last_case;
 use crate::tries::tried_case;
 use bdd::{Diagram, NoMemory, Shortage};
 use bit_rows::WIDTH_MAX;
@@ -84,8 +85,9 @@ fn unknown(shortage: Shortage, diagram: &Diagram) -> Result<Verdict, NoMemory>
     }
 }
 
-/// A case in which the two give different numbers, or none where they never do. Numbers are tried
-/// first, where the entry has few commands.
+/// A case in which the two give different numbers, or none where they never do. Where the entry has
+/// few commands, numbers are tried: from zeros in the other cells before the diagrams, and from
+/// ones where these gave no answer.
 fn found_case<F: Fetch, G: Fetch>(
     own: &F,
     made: &G,
@@ -117,13 +119,22 @@ fn found_case<F: Fetch, G: Fetch>(
     ensures limits { diagram.new.limits ≡ diagram.old.limits }
     ensures reached { (s : Shortage) → result ≡ Err s → HasReached s diagram.new }
 {
-    if counts.aap <= TRIED_MAX && counts.ap <= TRIED_MAX {
-        if let Some(case) = tried_case(own, made, n, diagram, alloc)? {
-            return Ok(Some(case));
+    let is_short = counts.aap <= TRIED_MAX && counts.ap <= TRIED_MAX;
+    if is_short {
+        if let Some(tried) = tried_case(false, own, made, n, diagram, alloc)? {
+            return Ok(Some(tried.case));
         }
     }
-    let found = failing_case(own, made, n, diagram, alloc)?;
-    Ok(found)
+    match failing_case(own, made, n, diagram, alloc) {
+        Ok(found) => Ok(found),
+        Err(shortage) => {
+            if !is_short {
+                return Err(shortage);
+            }
+            let case = last_case(shortage, own, made, n, alloc)?;
+            Ok(Some(case))
+        }
+    }
 }
 
 /// The verdict on an entry at a width, by one that does the op, with a fresh diagram.

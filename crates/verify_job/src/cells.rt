@@ -11,6 +11,7 @@ use bit_rows::Value;
 use dram_model::Cell;
 use faults::NoMemory;
 use uprog_code::Head;
+use verify_core::rows_of_results;
 
 /// Appends a letter, and a position in brackets.
 fn put_position(out: &mut Vec<u8>, letter: &[u8], position: u32) -> Result<(), NoMemory>
@@ -29,18 +30,6 @@ fn put_value(out: &mut Vec<u8>, letter: &[u8], n: u8, k: u32) -> Result<(), NoMe
 {
     put_number(out, letter, Value::from(k / u32::from(n)))?;
     put_position(out, b"", k % u32::from(n))
-}
-
-/// How many rows the results take.
-fn rows_of_results(head: &Head, n: u8) -> u32
-    ensures value { result ≡ result_rows (shape_of head.now) n }
-    ensures small { result ≤ 510 }
-{
-    if head.second.is_some() {
-        2 * u32::from(n)
-    } else {
-        u32::from(n)
-    }
 }
 
 /// Appends the name of the k-th row behind the values.
@@ -62,7 +51,7 @@ fn put_work(out: &mut Vec<u8>, bits: u8, words: u8, n: u8, k: u32) -> Result<(),
 fn put_row(out: &mut Vec<u8>, head: &Head, n: u8, row: u32) -> Result<(), NoMemory>
     ensures { OnOk result (out.new.items ≡ out.old.items ++ row_text (shape_of head.now) n row) }
 {
-    let results = rows_of_results(head, n);
+    let results = u32::from(rows_of_results(head, n));
     let values = results + u32::from(n) * head.sources.as_slice().len() as u32;
     if row < u32::from(n) {
         put_position(out, b"y", row)

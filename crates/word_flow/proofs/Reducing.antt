@@ -1,7 +1,7 @@
 -- and_red and or_red: two cells in turn, of which what both give is what was joined.
 use Rattle.word_flow.proofs.Common.{◌≡◌, ℕ, zero, suc, ◌+◌, ◌-◌, ◌*◌, ◌<◌, ◌≤◌, Bool, not, List, []}
 use Rattle.word_flow.proofs.Common.{◌∷◌, refl, sym, ap, ◌∙◌, subst, arith, slice_set, slice_index}
-use Rattle.word_flow.proofs.Common.{AddI, FlowOf, TurnsOf, EventOf, End, Do, Put, If, Loop, Last}
+use Rattle.word_flow.proofs.Common.{FlowOf, TurnsOf, EventOf, End, Do, Put, If, Loop, Last}
 use Rattle.word_flow.proofs.Common.{◌⊎◌, inl, inr, Turn, SubI, SetI, wp_some, wp_none, wp_loop, Fine, majority}
 use Rattle.word_flow.proofs.Reductions.{Part, Alone, Begun, Left, Right, Ended, left, right}
 use Rattle.word_flow.proofs.Reductions.{reduction, joined, reduction_total}

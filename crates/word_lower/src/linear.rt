@@ -14,7 +14,7 @@ ghost use Rattle.word_lower.specs.Shapes.{following, owners_of};
 use crate::bodies::program;
 use crate::slots::scratch_bit;
 use crate::table::lines;
-use block_lower::lower_block;
+use block_lower::{Searched, lower_block};
 use loop_ir::{LoopProgram, NameMap, Slot};
 use mig_graph::NoMemory;
 use op_text::{Stmt, WordOp};
@@ -83,7 +83,12 @@ fn lower_word(
 /// The loop program of a serial block, or of a word operation of the table.
 ///
 /// It is an `Err` only where it runs out of memory.
-pub fn lower_linear(s: &Stmt, names: &NameMap, alloc: Global) -> Result<LoopProgram, NoMemory>
+pub fn lower_linear(
+    s: &Stmt,
+    names: &NameMap,
+    searched: &mut Searched,
+    alloc: Global,
+) -> Result<LoopProgram, NoMemory>
     requires meets { StatementMeets (slots_of names.now) (statement s.now) }
     requires placed { IsPlaced (slots_of names.now) names.now.free_bit names.now.free_word
         (statement s.now) }
@@ -108,6 +113,6 @@ pub fn lower_linear(s: &Stmt, names: &NameMap, alloc: Global) -> Result<LoopProg
             states,
             lets,
             assigns,
-        } => lower_block(*down, states, lets, assigns, names, alloc),
+        } => lower_block(*down, states, lets, assigns, names, searched, alloc),
     }
 }

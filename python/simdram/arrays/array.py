@@ -1,7 +1,5 @@
 """Arrays in a chip: what is written with operators, and computed when it is looked at."""
 
-from __future__ import annotations
-
 import operator
 import typing
 
@@ -34,13 +32,13 @@ class Array(Operators):
     is a constant, and goes with arrays of any shape.
     """
 
-    def __init__(self, chip: Chip, shape: typing.Tuple[int, ...], value: Value,
+    def __init__(self, chip: "Chip", shape: typing.Tuple[int, ...], value: Value,
                  made: typing.Optional[Made] = None, signed: bool = False) -> None:
         self.chip, self.shape, self.value, self.made, self.signed = chip, shape, value, made, signed
         # of an array of a structured type this type and where its fields lie
         self.record: typing.Optional[typing.Tuple[numpy.dtype, typing.Mapping[str, Field]]] = None
 
-    def of_value(self, shape: typing.Tuple[int, ...], value: Value, signed: bool) -> Array:
+    def of_value(self, shape: typing.Tuple[int, ...], value: Value, signed: bool) -> "Array":
         """An array of the same chip that is computed when it is looked at."""
         return Array(self.chip, shape, value, signed=signed)
 
@@ -68,7 +66,7 @@ class Array(Operators):
         """How many elements it has."""
         return int(numpy.prod(self.shape, dtype=object))
 
-    def __getitem__(self, name: str) -> Array:
+    def __getitem__(self, name: str) -> "Array":
         """A field of a structured type: bits of this array's object, which take no command."""
         if self.record is None or name not in self.record[1]:
             raise TypeError(f"the fields of this array are {', '.join(self.record[1]) if self.record else 'none'}, and elements are looked at "
@@ -81,11 +79,11 @@ class Array(Operators):
         numbers = self.chip.values(self)
         return unpacked(numbers, self.record[1], self.record[0]) if self.record else numbers
 
-    def __array__(self, dtype: typing.Any = None, copy: typing.Any = None) -> numpy.ndarray:
+    def __array__(self, dtype: typing.Any = None, copy: typing.Any = None) -> "numpy.ndarray":
         return self.numpy() if dtype is None else self.numpy().astype(dtype)
 
     def astype(self, dtype: typing.Any = None, *, bits: typing.Optional[int] = None,
-               signed: typing.Optional[bool] = None) -> Array:
+               signed: typing.Optional[bool] = None) -> "Array":
         """The same numbers at another width, modulo 2^bits; or their patterns read as signed or unsigned.
 
         Fewer bits are a slice of the same object, which takes no command; more are copied beside zeros or copies of the top
@@ -105,7 +103,7 @@ class Array(Operators):
         return self.of_value(self.shape, extended(self.value, width, self.signed), is_signed)
 
     def sum(self, axis: typing.Optional[int] = None, dtype: typing.Any = None, out: typing.Any = None, *,
-            bits: typing.Optional[int] = None) -> Array:
+            bits: typing.Optional[int] = None) -> "Array":
         """The sums along an axis, or of all elements, modulo 2^bits; at another width with `bits`, as after `astype`.
 
         Elements stand in columns, which no row command joins: the host moves halves over each other, and a tree of as
@@ -118,7 +116,7 @@ class Array(Operators):
             raise TypeError("a sum of truth values needs a width: bits=8")
         return summed(self if dtype is None and bits is None else self.astype(dtype, bits=bits), axis)
 
-    def of_number(self, number: Constant) -> Array:
+    def of_number(self, number: Constant) -> "Array":
         """One number of this width, that the chip has computed."""
         return Array(self.chip, (), Value(self.value.kind, self.bits, number), number.made, self.signed)
 
@@ -130,7 +128,7 @@ class Array(Operators):
                     "says so.")
     report = of_all("report", "What the program reported of these lines.")
 
-    def profile(self) -> ScriptProfile:
+    def profile(self) -> "ScriptProfile":
         """Where its cost went: by op, by instruction of its script and by statement of its ops."""
         from .profiling import profile
         return profile(self.chip.made(self))
@@ -145,6 +143,6 @@ class Array(Operators):
 
 
 
-def constant(chip: Chip, number: int, kind: str, bits: int, signed: bool) -> Array:
+def constant(chip: "Chip", number: int, kind: str, bits: int, signed: bool) -> Array:
     """One number, for arrays of any shape."""
     return Array(chip, (), Value(kind, bits, Constant(number % 2**bits)), Made(), signed)

@@ -1,7 +1,5 @@
 """NumPy arrays and cells: what a chip's objects take and give."""
 
-from __future__ import annotations
-
 import typing
 
 import numpy

@@ -1,7 +1,5 @@
 """A chip: its image, the arrays that lie in it, and the programs that compute them."""
 
-from __future__ import annotations
-
 import dataclasses
 import gc
 import operator

@@ -1,8 +1,6 @@
 """What an expression, an op, a query or all work of a chip costs: row commands over all banks and in one, and rows that the
 host moves."""
 
-from __future__ import annotations
-
 import dataclasses
 import typing
 
@@ -30,7 +28,7 @@ class Cost:
         return self.aap + self.ap
 
     @property
-    def per_bank(self) -> Cost:
+    def per_bank(self) -> "Cost":
         """The row commands of one bank, the busiest."""
         return Cost(*(self.busiest or (self.aap // self.banks, self.ap // self.banks)))
 

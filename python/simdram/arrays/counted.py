@@ -1,7 +1,5 @@
 """The costs of what has a program file of one entry."""
 
-from __future__ import annotations
-
 import operator
 import os
 import tempfile

@@ -1,13 +1,10 @@
 """Cuts an expression into ops: each with at most four sources, sixteen statements and two results, at one width."""
 
-from __future__ import annotations
-
 import typing
 
+from ..rules.ops_rules import RESULTS, SOURCES, STATEMENTS
 from .expressions import Result, Step, Value, in_order
 from .operations import Operation
-
-SOURCES, STATEMENTS, RESULTS = 4, 16, 2
 
 
 class Part:

@@ -1,7 +1,5 @@
 """Values and the steps that give them: what an expression is before it is compiled."""
 
-from __future__ import annotations
-
 import typing
 
 from .operations import BIT, SAME, WORD
@@ -11,7 +9,7 @@ from .refusals import Refused
 class Held:
     """A value that is an object of the chip, or the bits of one from `low` on, and how it was made."""
 
-    def __init__(self, name: str, made: typing.Any = None, low: int = 0, whole: typing.Optional[Value] = None) -> None:
+    def __init__(self, name: str, made: typing.Any = None, low: int = 0, whole: "typing.Optional[Value]" = None) -> None:
         self.name, self.made, self.low, self.whole = name, made, low, whole
 
 
@@ -25,7 +23,7 @@ class Constant:
 class Result:
     """A value that a step gives: its first or its second."""
 
-    def __init__(self, step: Step, place: int) -> None:
+    def __init__(self, step: "Step", place: int) -> None:
         self.step, self.place = step, place
 
 

@@ -1,7 +1,5 @@
 """Functions of arrays beside the operators."""
 
-from __future__ import annotations
-
 import operator
 import typing
 

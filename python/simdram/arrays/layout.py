@@ -1,7 +1,5 @@
 """Values that are bits of others, which take no command, and values that are put together of them."""
 
-from __future__ import annotations
-
 import typing
 
 from .expressions import Constant, Result, Step, Value

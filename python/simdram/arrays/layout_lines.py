@@ -1,7 +1,5 @@
 """The lines of a script that put a value together, and those of a product with all its bits."""
 
-from __future__ import annotations
-
 import re
 import typing
 

@@ -1,7 +1,5 @@
 """The form of slices and joins that takes the fewest commands: slices of objects alone, and joins whose pieces are as long as may be."""
 
-from __future__ import annotations
-
 import itertools
 import typing
 

@@ -1,12 +1,9 @@
 """What a value is, for the rules of `rewriting`: a constant, or a result with these arguments."""
 
-from __future__ import annotations
-
 import typing
 
-from .blocks import BLOCKS
 from .expressions import Constant, Result, Value
-from .operations import OPERATIONS
+from .operations import NAMED
 
 
 def number_of(value: Value) -> typing.Optional[int]:
@@ -21,7 +18,7 @@ def is_ones(value: Value) -> bool:
 
 def arguments_of(name: str, value: Value) -> typing.Tuple[Value, ...]:
     """The arguments of an operation of this name, where it gives the value; an op of the designer's own never does."""
-    if isinstance(value.origin, Result) and value.origin.step.operation is (OPERATIONS.get(name) or BLOCKS[name]):
+    if isinstance(value.origin, Result) and value.origin.step.operation is NAMED[name]:
         return value.origin.step.arguments
     return ()
 

@@ -1,7 +1,5 @@
 """Products with all their bits, and products of matrices."""
 
-from __future__ import annotations
-
 import typing
 
 import numpy

@@ -1,14 +1,12 @@
 """The text of an op, from the steps of a part."""
 
-from __future__ import annotations
-
 import itertools
 import re
 import typing
 
-from . import blocks
 from .cutting import Part
 from .expressions import Step, Value
+from .operations import statement
 
 PARAMETERS, RESULTS = "abcd", "yz"
 HEAD = re.compile(r"op (\w+)\(")
@@ -31,7 +29,7 @@ def _statement(step: Step, names: typing.Dict[int, str], states: typing.Iterator
     """A word statement, or the serial block of an operation that is one."""
     targets, arguments = ([names[id(value)] for value in values] for values in (step.results, step.arguments))
     if step.operation.block:
-        return blocks.statement(step.operation, targets[0], arguments, states.__next__)
+        return statement(step.operation, targets[0], arguments, states.__next__)
     return f"{', '.join(targets)} = {step.operation.name}({', '.join(arguments)});"
 
 

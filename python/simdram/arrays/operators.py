@@ -1,15 +1,12 @@
 """The operators of arrays: what each makes of its operands, which are arrays, numbers, or arrays of NumPy."""
 
-from __future__ import annotations
-
 import operator
 import typing
 
 import numpy
 
 from . import expressions, layout
-from .blocks import BLOCKS
-from .operations import BIT, OPERATIONS, WORD
+from .operations import BIT, BLOCKS, OPERATIONS, WORD
 from .refusals import Refused
 
 

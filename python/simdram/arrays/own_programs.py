@@ -1,13 +1,11 @@
 """Programs of a designer's own, in the text for microprograms, as functions of arrays (docs/MICROPROGRAMS.md)."""
 
-from __future__ import annotations
-
 import re
 import tempfile
 import typing
 import warnings
 
-from ..assembler import TextFault, assemble
+from ..assembler import Breach, assemble
 from ..files.program import Program
 from ..files.store import store
 from ..launcher import run_program
@@ -34,7 +32,7 @@ class OwnProgram(Counted):
             raise TypeError(f"a program is a text, and not {type(text).__name__}")
         try:
             entries = assemble(text.encode()).entries
-        except TextFault as fault:
+        except Breach as fault:
             raise ValueError("\n".join(fault.answer("program", text.encode()).lines())) from None
         if len(entries) != 1:
             raise ValueError(f"simdram.program takes the text of one program, and this has {len(entries)}")

@@ -3,8 +3,6 @@
 The constant is written in digits -1, 0 and 1, no two neighbours of which are not 0: the fewest digits that there are.
 """
 
-from __future__ import annotations
-
 import typing
 
 from .expressions import Value

@@ -1,7 +1,5 @@
 """Where the row commands of a computed array went: by op, by instruction of its script, and by statement of its ops."""
 
-from __future__ import annotations
-
 import dataclasses
 import typing
 

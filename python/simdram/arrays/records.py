@@ -1,7 +1,5 @@
 """Arrays of a structured type: one object, whose fields are bits of it."""
 
-from __future__ import annotations
-
 import typing
 
 import numpy

@@ -1,7 +1,5 @@
 """What the front raises where the program refuses."""
 
-from __future__ import annotations
-
 import typing
 
 from ..launcher.run_program import Ended

@@ -4,8 +4,6 @@ A rule takes the builder and the operation's arguments, and gives its result or 
 Of a commutative operation a constant is the last argument. Not all arguments are constants.
 """
 
-from __future__ import annotations
-
 import typing
 
 from .expressions import Value

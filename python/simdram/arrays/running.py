@@ -1,7 +1,5 @@
 """A script of bbops on an image, done by the program, and what its report says."""
 
-from __future__ import annotations
-
 import re
 import tempfile
 import typing
@@ -37,7 +35,7 @@ class Made(typing.NamedTuple):
     text_as_written: str = ""
     sources: typing.Tuple[typing.Any, ...] = ()
 
-    def all(self) -> typing.List[Made]:
+    def all(self) -> "typing.List[Made]":
         """All that was done for it, each once, in order."""
         found: typing.Dict[int, Made] = {}
         waiting = [self]
@@ -50,7 +48,7 @@ class Made(typing.NamedTuple):
                 found.setdefault(id(one), one)
         return list(found.values())
 
-    def whole(self) -> Made:
+    def whole(self) -> "Made":
         """All that was done for it, as one."""
         parts = self.all()
         texts = ("".join(dict.fromkeys(getattr(one, name) for one in parts)) for name in ("text", "ops", "text_as_written"))

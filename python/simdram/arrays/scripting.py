@@ -1,7 +1,5 @@
 """From parts to scripts: objects for constants and results, a bbop for each part, and what is freed after it."""
 
-from __future__ import annotations
-
 import collections
 import dataclasses
 import typing

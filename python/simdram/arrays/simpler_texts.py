@@ -1,7 +1,5 @@
 """The texts of a chip's ops, simplified at their widths where the chip asks for it, and kept on disk."""
 
-from __future__ import annotations
-
 import hashlib
 import typing
 

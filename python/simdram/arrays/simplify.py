@@ -4,16 +4,12 @@ Every value is made once, so that an equal subexpression is one step. `rewriting
 division and a rest of the same numbers are one step, and of two results those that nothing reads are left out.
 """
 
-from __future__ import annotations
-
 import typing
 
-from .blocks import BLOCKS
-from .constant_folding import folded
 from .expressions import Constant, Held, Result, Step, Value, in_order
 from .layout import Layout
 from .layout_rules import laid_out, moved, sliced
-from .operations import BIT, OPERATIONS, WORD, Operation
+from .operations import BIT, NAMED, OPERATIONS, WORD, Operation
 from .rewriting import COMMUTATIVE, RULES
 
 Results = typing.Tuple[Value, ...]
@@ -62,7 +58,7 @@ class Builder:
     def do(self, name: str, *arguments: Value) -> Value:
         """The one result of an operation by its name."""
         width = next((value.bits for value in arguments if value.kind == WORD), None)
-        return self.results(OPERATIONS.get(name) or BLOCKS[name], arguments, width)[0]
+        return self.results(NAMED[name], arguments, width)[0]
 
     def results(self, operation: typing.Any, arguments: typing.Sequence[Value], width: typing.Optional[int]) -> Results:
         """The results of an operation on values that are in this form."""
@@ -72,7 +68,7 @@ class Builder:
         if not isinstance(operation, Operation):
             return self.step(operation, arguments, width)
         if all(isinstance(value.origin, Constant) for value in arguments):
-            numbers = folded(operation.name, width or 1, [value.origin.number for value in arguments])
+            numbers = operation.folded(width or 1, [value.origin.number for value in arguments])
             return tuple(self.constant(kind, 1 if kind == BIT else width, number) for kind, number in zip(kinds, numbers))
         if operation.name in COMMUTATIVE:
             arguments = sorted(arguments, key=lambda one: (isinstance(one.origin, Constant), self.order[id(one)]))

@@ -1,7 +1,5 @@
 """The sum of an array along an axis: halves are added, by the host's hands in one column, until one is left."""
 
-from __future__ import annotations
-
 import typing
 
 import numpy
@@ -15,7 +13,7 @@ if typing.TYPE_CHECKING:
     from .array import Array
 
 
-def summed(array: Array, axis: typing.Optional[int]) -> Array:
+def summed(array: "Array", axis: typing.Optional[int]) -> "Array":
     """The sums along an axis, or over all elements. Each step reads the rows of an array, writes those of its two halves, and
     adds them, so that as many steps are taken as the number of elements on the axis has binary digits."""
     numbers = array.numpy()
@@ -47,19 +45,19 @@ def _axis(axis: typing.Optional[int], count: int) -> typing.Optional[int]:
     return axis % count
 
 
-def halves_added(array: Array, numbers: numpy.ndarray, made: Made) -> Array:
+def halves_added(array: "Array", numbers: numpy.ndarray, made: Made) -> "Array":
     """The sum of the first half and the second, to which zeros are added where the number is odd."""
     half = (len(numbers) + 1) // 2
     second = numpy.concatenate([numbers[half:], numpy.zeros_like(numbers[:2 * half - len(numbers)])])
     return moved(array, numbers[:half], made, read(array)) + moved(array, second, made, 0)
 
 
-def read(array: Array) -> int:
+def read(array: "Array") -> int:
     """How many rows the host reads of an array."""
     return array.bits * array.chip.image.banks_of(array.size)
 
 
-def moved(array: Array, numbers: numpy.ndarray, made: Made, reads: int) -> Array:
+def moved(array: "Array", numbers: numpy.ndarray, made: Made, reads: int) -> "Array":
     """Numbers of an array that was computed so, placed anew by the host."""
     placed = array.chip.array(cells.modulo(numbers, array.bits), bits=array.bits)
     banks = array.chip.image.banks_of(placed.size)

@@ -1,7 +1,5 @@
 """NumPy's ufuncs on arrays of a chip: `np.add(a, b)` is `a + b`."""
 
-from __future__ import annotations
-
 import operator
 import typing
 

@@ -1,7 +1,5 @@
 """Ops of a designer's own text, as functions of arrays."""
 
-from __future__ import annotations
-
 import functools
 import re
 import tempfile

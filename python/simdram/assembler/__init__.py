@@ -1,17 +1,15 @@
 """A text for microprograms: from the text to a program, and from a program to the text (docs/MICROPROGRAMS.md)."""
 
-from __future__ import annotations
-
 from ..files.program import Program
+from ..rules.answer import Breach
 from .encode import entry_of
-from .fault import TextFault
 from .lowering import lowered
 from .parser import parsed
 
-__all__ = ["TextFault", "assemble"]
+__all__ = ["Breach", "assemble"]
 
 
 def assemble(data: bytes) -> Program:
-    """The program that a text writes; a text at fault raises `TextFault`."""
+    """The program that a text writes; a text at fault raises `Breach`."""
     text = parsed(data)
     return Program([entry_of(one.head, lowered(one)) for one in text.programs], text.version)

@@ -5,8 +5,6 @@ teaches the text. What the file does is said by `simdram verify`. A text at faul
 wrong and what would be right, and nothing is written.
 """
 
-from __future__ import annotations
-
 import argparse
 import sys
 
@@ -15,7 +13,7 @@ from ..launcher.faults import WRONG
 from ..launcher.overwrite import write
 from ..launcher.settings import Settings
 from ..launcher.tool_parser import tool_parser
-from . import TextFault, assemble
+from . import Breach, assemble
 
 
 def parser() -> argparse.ArgumentParser:
@@ -30,7 +28,7 @@ def main(words: list[str], settings: Settings) -> int:
     data = load(asked.text, "micro")
     try:
         program = assemble(data)
-    except TextFault as fault:
+    except Breach as fault:
         print("\n".join(fault.answer(asked.text, data).lines()), file=sys.stderr)
         return WRONG
     write(asked.prog, program.file(), "program", settings)

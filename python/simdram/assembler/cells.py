@@ -1,7 +1,5 @@
 """The cells by their names, and the address that raises them."""
 
-from __future__ import annotations
-
 from ..files.decode import CELLS, RAISED, Line
 
 

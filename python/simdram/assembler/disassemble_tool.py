@@ -5,8 +5,6 @@ a, b, c, d, results y and z, scratch t0, t1, .. and w0, w1, .. With --raw it pri
 assemble to the same file, byte for byte.
 """
 
-from __future__ import annotations
-
 import argparse
 
 from ..files.program import Program

@@ -1,7 +1,5 @@
 """Sums of n, loop variables and numbers, as subscripts and bounds have them."""
 
-from __future__ import annotations
-
 import typing
 
 from ..files.program import ADD, ADDI, SETI, SETN, SETT, SUBI, Instruction
@@ -16,7 +14,7 @@ class Form(typing.NamedTuple):
     terms: typing.Tuple[typing.Tuple[str, int], ...] = ()
 
     @classmethod
-    def of(cls, name: str) -> Form:
+    def of(cls, name: str) -> "Form":
         """A name alone."""
         return cls(0, ((name, 1),))
 
@@ -24,7 +22,7 @@ class Form(typing.NamedTuple):
         """How often a name is added."""
         return dict(self.terms).get(name, 0)
 
-    def plus(self, other: Form, factor: int = 1) -> Form:
+    def plus(self, other: "Form", factor: int = 1) -> "Form":
         """The sum with a multiple of another form."""
         sums = dict(self.terms)
         for name, times in other.terms:
@@ -32,15 +30,15 @@ class Form(typing.NamedTuple):
         kept = tuple(sorted((name, times) for name, times in sums.items() if times))
         return Form(self.number + factor * other.number, kept)
 
-    def minus(self, other: Form) -> Form:
+    def minus(self, other: "Form") -> "Form":
         """The difference."""
         return self.plus(other, -1)
 
-    def add(self, number: int) -> Form:
+    def add(self, number: int) -> "Form":
         """The sum with a number."""
         return Form(self.number + number, self.terms)
 
-    def put(self, name: str, value: Form) -> Form:
+    def put(self, name: str, value: "Form") -> "Form":
         """The form with a value in place of a name."""
         times = self.times(name)
         without = Form(self.number, tuple(term for term in self.terms if term[0] != name))

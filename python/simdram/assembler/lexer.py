@@ -1,36 +1,22 @@
 """The tokens of a text for microprograms: as those of an operation text, with more symbols, and the ends of lines."""
 
-from __future__ import annotations
-
 import re
 
-from ..rules.tokens import END, NAME, NUMBER, STRANGER, SYMBOL, Token, no_token
-from .fault import TextFault
+from ..rules.answer import Breach
+from ..rules.tokens import END, NAME, NUMBER, STRANGER, SYMBOL, Token, no_token, tokens
 
 NEWLINE = "newline"
 ITEM = re.compile(rb"(?P<gap>[ \t\r]+|#[^\n]*)|(?P<newline>\n)|(?P<name>[A-Za-z_][A-Za-z0-9_]*)|(?P<number>[0-9]+)"
                   rb"|(?P<symbol>->|\.\.|==|!=|[(){}\[\],;:=+\-*~])|(?P<stranger>.)", re.DOTALL)
 
 
-def tokens(data: bytes) -> list[Token]:
-    """The tokens of a text, and its end; a byte that starts none is a fault."""
-    found = []
-    for match in ITEM.finditer(data):
-        kind = match.lastgroup
-        if kind == "gap":
-            continue
-        token = Token(kind, match.group().decode("ascii", "backslashreplace"), match.start())
-        if kind == STRANGER:
-            raise TextFault(token, "lex", no_token(token))
-        found.append(token)
-    return [*found, Token(END, "", len(data))]
-
-
 class Tokens:
     """The tokens of a text that are left."""
 
     def __init__(self, data: bytes) -> None:
-        self.found, self.at = tokens(data), 0
+        self.found, self.at = tokens(data, ITEM), 0
+        if self.found[-1].kind == STRANGER:
+            raise Breach(self.found[-1], "lex", no_token(self.found[-1]))
         # the width for which alone the program is that is read, or none
         self.width: int | None = None
 
@@ -64,13 +50,13 @@ class Tokens:
     def expect(self, text: str, after: str) -> Token:
         """Takes this token, which has to come."""
         if not self.is_at(text):
-            raise TextFault(self.here, "syntax", f"{said(self.here)} stands where `{text}` is expected{after}")
+            raise Breach(self.here, "syntax", f"{said(self.here)} stands where `{text}` is expected{after}")
         return self.next()
 
     def of_kind(self, kind: str, what: str) -> Token:
         """Takes a token of a kind, which has to come."""
         if self.here.kind != kind:
-            raise TextFault(self.here, "syntax", f"{said(self.here)} stands where {what} is expected")
+            raise Breach(self.here, "syntax", f"{said(self.here)} stands where {what} is expected")
         return self.next()
 
     def name(self, what: str) -> Token:

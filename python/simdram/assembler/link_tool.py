@@ -4,8 +4,6 @@ So a script can name entries of the compiler and of a designer's own beside each
 are at most 32. OUT is a file of version 2.
 """
 
-from __future__ import annotations
-
 import argparse
 
 from ..files.program import ENTRIES, Entry, Program

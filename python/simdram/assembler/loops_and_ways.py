@@ -1,7 +1,5 @@
 """The loops of a microprogram with their turns, and its choices with their ways."""
 
-from __future__ import annotations
-
 import typing
 
 from ..files.program import ADD, ADDI, BNEZ, MOV, SETI, SETN, SETT, SUBI, Instruction

@@ -1,12 +1,10 @@
 """From statements to instructions: loops, choices and subscripts become instructions on registers."""
 
-from __future__ import annotations
-
 import typing
 
 from ..files.program import (ADD, ADDI, BNEZ, DONE, LARGEST, MOV, REGISTERS, SETI, SETN, SETT, SUBI, Row)
+from ..rules.answer import Breach
 from ..rules.tokens import NUMBER, Token
-from .fault import TextFault
 from .forms import N, Form
 from .needs import least, needs_of, tested
 from .registers import Registers, named_registers
@@ -26,19 +24,19 @@ class Frame(typing.NamedTuple):
     end: str
 
 
-def lowered(program: ProgramText) -> Lowering:
+def lowered(program: ProgramText) -> "Lowering":
     """The instructions of a program, and its labels. Where there are too few registers for subscripts that are no loop's to
     keep one each, they are set before each command that needs them."""
     try:
         made = Lowering(program)
         made.whole()
-    except TextFault as fault:
+    except Breach as fault:
         if fault.kind != "register":
             raise
         made = Lowering(program, is_lean=True)
         try:
             made.whole()
-        except TextFault:
+        except Breach:
             raise fault from None
     return made
 
@@ -133,7 +131,7 @@ class Lowering:
             self.place(one.token.text)
         elif isinstance(one, Numbered):
             if one.token.text != str(len(self.code)):
-                raise TextFault(one.token, "number", f"this is instruction {len(self.code)}", "numbers may be left out")
+                raise Breach(one.token, "number", f"this is instruction {len(self.code)}", "numbers may be left out")
         elif isinstance(one, Jump):
             self.jump(one)
         elif isinstance(one, For):
@@ -148,7 +146,7 @@ class Lowering:
         rows = tuple(map(self.row, one.rows))
         forms = {operand.index for operand in one.rows if isinstance(operand.index, Form)}
         if len({row.index for row, operand in zip(rows, one.rows) if isinstance(operand.index, Form)}) < len(forms):
-            raise TextFault(one.token, "register", "there is one register left for two subscripts")
+            raise Breach(one.token, "register", "there is one register left for two subscripts")
         self.emit(one.kind, rows=rows)
 
     def row(self, operand: Operand) -> Row:
@@ -173,7 +171,7 @@ class Lowering:
     def jump(self, one: Jump) -> None:
         """A jump to a label of the text; one that is always done needs a register that is not zero."""
         if self.is_lean and one.target.kind == NUMBER:
-            raise TextFault(one.target, "register", "a jump to a number leads where no label shows what registers hold")
+            raise Breach(one.target, "register", "a jump to a number leads where no label shows what registers hold")
         register = one.register
         if register is None:
             register = self.take(one.token, "a jump")
@@ -193,7 +191,7 @@ class Lowering:
     def add(self, register: int, number: int) -> None:
         """Adds a number to a register."""
         if abs(number) > LARGEST:
-            raise TextFault(self.token, "number", f"{number} is added here", f"registers hold 0 to {LARGEST}")
+            raise Breach(self.token, "number", f"{number} is added here", f"registers hold 0 to {LARGEST}")
         if number:
             self.emit(ADDI if number > 0 else SUBI, register, number=abs(number))
 
@@ -214,7 +212,7 @@ class Lowering:
                 self.emit(ADD, register, register)
             self.add(register, form.number)
         else:
-            raise TextFault(self.token, "number", f"no register can be set to {form}", "registers hold 0 to 1023, n, and what "
+            raise Breach(self.token, "number", f"no register can be set to {form}", "registers hold 0 to 1023, n, and what "
                             "loops count in them")
 
     def hold(self, form: Form, value: Form, token: Token) -> int:

@@ -1,15 +1,13 @@
 """The names of a program: those of its head, and those that a listing gives every row."""
 
-from __future__ import annotations
-
 import re
 import typing
 
 from ..files.fields import NAME_BYTES
-from ..files.row_rules import BIT, REGISTERS, RESULT, SOURCE, SPILL, SPILLS, WORD
+from ..files.program import BIT, REGISTERS, RESULT, SOURCE, SPILL, SPILLS, WORD
+from ..rules.answer import Breach
 from ..rules.tokens import Token
 from .cells import NAMES as CELLS
-from .fault import TextFault
 from .tree import Head
 
 REGISTER = re.compile("r([0-9]+)")
@@ -46,12 +44,12 @@ def register_of(name: str) -> typing.Optional[int]:
 def check_name(token: Token, what: str) -> None:
     """Refuses a name that is too long, or that means something else already."""
     if len(token.text) > NAME_BYTES:
-        raise TextFault(token, "name", f"{what} has {len(token.text)} bytes", f"a name has at most {NAME_BYTES}")
+        raise Breach(token, "name", f"{what} has {len(token.text)} bytes", f"a name has at most {NAME_BYTES}")
     match = LISTED.fullmatch(token.text)
     is_cell = token.text in CELLS or bool(match and match[1] in "BCp")
     if token.text in WORDS or is_cell or register_of(token.text) is not None:
         means = "a word of the text" if token.text in WORDS else "a cell, an address, a spill row or a register"
-        raise TextFault(token, "name", f"`{token.text}` is {means}, and cannot be the name of {what}", "take another name")
+        raise Breach(token, "name", f"`{token.text}` is {means}, and cannot be the name of {what}", "take another name")
 
 
 class Names:
@@ -71,13 +69,13 @@ class Names:
             return self.known[token.text]
         place = listed(token.text)
         if place is None:
-            raise TextFault(token, "name", f"there is no row `{token.text}`", f"the rows are {self.said()}, and the cells "
+            raise Breach(token, "name", f"there is no row `{token.text}`", f"the rows are {self.said()}, and the cells "
                             f"{', '.join(CELLS)}", "scratch is declared below the head, as `scratch c: bit, w: word`")
         space, which = place
         kinds = {SOURCE: list(self.head.sources.values()), RESULT: list(self.head.results.values()),
                  BIT: ["bit"] * len(self.head.bits), WORD: ["word"] * len(self.head.words), SPILL: ["bit"] * SPILLS}[space]
         if which >= len(kinds):
-            raise TextFault(token, "name", f"there is no row `{token.text}`", f"the rows are {self.said()}")
+            raise Breach(token, "name", f"there is no row `{token.text}`", f"the rows are {self.said()}")
         return Named(space, which, kinds[which])
 
     def said(self) -> str:
@@ -89,7 +87,7 @@ def check_register(token: Token) -> int:
     """The number of a register, of which there are eight."""
     number = register_of(token.text)
     if number is None:
-        raise TextFault(token, "register", f"`{token.text}` stands where a register is expected", "the registers are r0 to r7")
+        raise Breach(token, "register", f"`{token.text}` stands where a register is expected", "the registers are r0 to r7")
     if number >= REGISTERS:
-        raise TextFault(token, "register", f"there is no register {token.text}", "the registers are r0 to r7")
+        raise Breach(token, "register", f"there is no register {token.text}", "the registers are r0 to r7")
     return number

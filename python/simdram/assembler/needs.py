@@ -1,10 +1,8 @@
 """Which forms a loop, or the program itself, holds in registers: subscripts of its rows, and what inner loops begin with."""
 
-from __future__ import annotations
-
 import typing
 
-from .fault import TextFault
+from ..rules.answer import Breach
 from .forms import N, Form
 from .tree import Command, For, If
 
@@ -89,5 +87,5 @@ def tested(one: If, around: Around) -> typing.Tuple[Form, typing.Optional[int]]:
         alone = Form(0, form.terms)
         if form.number < 0 and least(alone, around) >= 0:
             return alone, -form.number
-    raise TextFault(one.token, "number", f"{one.form} may be above and below zero here", "the one side is never less than the other, or is "
+    raise Breach(one.token, "number", f"{one.form} may be above and below zero here", "the one side is never less than the other, or is "
                     "a number")

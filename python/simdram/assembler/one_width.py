@@ -1,7 +1,5 @@
 """Programs for one width: the instructions at which they are stuck at all others, as the assembler writes them for `width 8`."""
 
-from __future__ import annotations
-
 import dataclasses
 import typing
 

@@ -1,12 +1,10 @@
 """From a text to its tree: programs, statements, loops."""
 
-from __future__ import annotations
-
 import typing
 
 from ..files.program import AAP, AP, BNEZ, ENTRIES, LARGEST, NAMES as INSTRUCTIONS, OPERANDS
+from ..rules.answer import Breach
 from ..rules.tokens import END, NAME, NUMBER, Token
-from .fault import TextFault
 from .heads import read_entry, read_head
 from .lexer import Tokens, said
 from .names import Names, check_name, check_register, listed
@@ -24,16 +22,16 @@ def parsed(data: bytes) -> Text:
     if tokens.took("version"):
         token = tokens.number("1 or 2")
         if token.text not in ("1", "2"):
-            raise TextFault(token, "number", f"there is no version {token.text} of program files", "`version 1` or `version 2`")
+            raise Breach(token, "number", f"there is no version {token.text} of program files", "`version 1` or `version 2`")
         text.version = int(token.text)
         tokens.skip_lines()
     while tokens.here.kind != END:
         token = tokens.expect("program", ", as in `program xor(a: word, b: word) -> y: word`")
         if len(text.programs) == ENTRIES:
-            raise TextFault(token, "head", f"this is program {ENTRIES + 1} of the text", f"a program file has at most {ENTRIES}")
+            raise Breach(token, "head", f"this is program {ENTRIES + 1} of the text", f"a program file has at most {ENTRIES}")
         text.programs.append(Reader(tokens, {one.head.name for one in text.programs}).program())
         if text.version == 1 and len(text.programs[-1].head.results) == 2:
-            raise TextFault(token, "head", "a program of two results has no file of version 1", "leave out `version 1`")
+            raise Breach(token, "head", "a program of two results has no file of version 1", "leave out `version 1`")
     return text
 
 
@@ -63,7 +61,7 @@ class Reader:
         self.tokens.skip_lines()
         while not self.tokens.is_at("}"):
             if self.tokens.here.kind == END or self.tokens.is_at("program"):
-                raise TextFault(opened, "syntax", "this `{` has no `}`", "a block ends with `}`")
+                raise Breach(opened, "syntax", "this `{` has no `}`", "a block ends with `}`")
             self.statement(body)
         self.tokens.next()
         return body
@@ -74,7 +72,7 @@ class Reader:
             body.append(Numbered(self.tokens.next()))
         token = self.tokens.next()
         if token.kind != NAME:
-            raise TextFault(token, "syntax", f"{said(token)} stands where {STATEMENTS} is expected")
+            raise Breach(token, "syntax", f"{said(token)} stands where {STATEMENTS} is expected")
         if self.tokens.is_at(":"):
             body.append(self.label(token))
             self.tokens.next()
@@ -82,7 +80,7 @@ class Reader:
             return
         self.named_statement(token, body)
         if token.text not in ("for", "if") and not self.tokens.at_line_end():
-            raise TextFault(self.tokens.here, "syntax", f"{said(self.tokens.here)} stands after a whole `{token.text}`",
+            raise Breach(self.tokens.here, "syntax", f"{said(self.tokens.here)} stands after a whole `{token.text}`",
                             "a statement ends with its line, or with `;`")
         self.tokens.skip_lines()
 
@@ -90,7 +88,7 @@ class Reader:
         """A place with a name, which is new in this program."""
         check_name(token, "a label")
         if token.text in self.labels:
-            raise TextFault(token, "twice", f"there is a label {token.text} already", "each label of a program has its own name")
+            raise Breach(token, "twice", f"there is a label {token.text} already", "each label of a program has its own name")
         self.labels.add(token.text)
         return Label(token)
 
@@ -102,14 +100,14 @@ class Reader:
             body.append(self.choice(token))
         elif token.text == "next":
             if not self.loops:
-                raise TextFault(token, "loop", "`next` stands in no loop", "it stands in a loop's own body")
+                raise Breach(token, "loop", "`next` stands in no loop", "it stands in a loop's own body")
             body.append(Next(token))
         elif token.text == "JMP":
             body.append(Jump(token, None, self.target()))
         elif token.text in INSTRUCTIONS:
             body.append(self.instruction(token, INSTRUCTIONS.index(token.text)))
         else:
-            raise TextFault(token, "syntax", f"`{token.text}` stands where {STATEMENTS} is expected",
+            raise Breach(token, "syntax", f"`{token.text}` stands where {STATEMENTS} is expected",
                             f"the instructions are {', '.join(INSTRUCTIONS)}")
 
     def loop(self, token: Token) -> For:
@@ -117,14 +115,14 @@ class Reader:
         variable = self.tokens.name("a loop variable")
         check_name(variable, "a loop variable")
         if variable.text in self.loops or variable.text in self.names.known or listed(variable.text):
-            raise TextFault(variable, "twice", f"`{variable.text}` is named already", "a loop variable has its own name")
+            raise Breach(variable, "twice", f"`{variable.text}` is named already", "a loop variable has its own name")
         self.tokens.expect("in", f" after {variable.text}")
         start = read_form(self.tokens, self.loops)
         self.tokens.expect("..", " between the bounds")
         end = read_form(self.tokens, self.loops)
         made = For(token, variable.text, start, end, goes_down(start, end), self.step())
         if not made.count.terms and made.count.number <= 0:
-            raise TextFault(token, "loop", f"the loop has no iteration: {start}..{end}", "upwards A..B ends before B, downwards at B")
+            raise Breach(token, "loop", f"the loop has no iteration: {start}..{end}", "upwards A..B ends before B, downwards at B")
         self.loops.append(variable.text)
         made.body = self.block()
         self.loops.pop()
@@ -136,14 +134,14 @@ class Reader:
             return 1
         token = self.tokens.number("a number after `step`")
         if not 1 <= int(token.text) <= LONGEST_STEP:
-            raise TextFault(token, "number", f"the step is {token.text}", f"a loop goes on by 1 to {LONGEST_STEP}")
+            raise Breach(token, "number", f"the step is {token.text}", f"a loop goes on by 1 to {LONGEST_STEP}")
         return int(token.text)
 
     def choice(self, token: Token) -> If:
         """`if A == B { .. } else { .. }`, or with `!=`."""
         first = read_form(self.tokens, self.loops)
         if not self.tokens.is_at("==", "!="):
-            raise TextFault(self.tokens.here, "syntax", f"{said(self.tokens.here)} stands where `==` or `!=` is expected")
+            raise Breach(self.tokens.here, "syntax", f"{said(self.tokens.here)} stands where `==` or `!=` is expected")
         is_equal = self.tokens.next().text == "=="
         made = If(token, first.minus(read_form(self.tokens, self.loops)))
         one = self.block()
@@ -192,14 +190,14 @@ class Reader:
         """A number that an instruction may have."""
         token = self.tokens.number("a number")
         if int(token.text) > LARGEST:
-            raise TextFault(token, "number", f"{token.text} is too great", f"a number is at most {LARGEST}")
+            raise Breach(token, "number", f"{token.text} is too great", f"a number is at most {LARGEST}")
         return int(token.text)
 
     def target(self) -> Token:
         """Where a jump leads: a label, or the number of an instruction."""
         token = self.tokens.next()
         if token.kind not in (NAME, NUMBER):
-            raise TextFault(token, "syntax", f"{said(token)} stands where a label or a number is expected")
+            raise Breach(token, "syntax", f"{said(token)} stands where a label or a number is expected")
         return token
 
 

@@ -1,13 +1,11 @@
 """From a program to its text: for a reader, with cells and operands by their names, labels, and loops where that is the same; or
 in the raw layer, the lines of a listing, each entry below its head."""
 
-from __future__ import annotations
-
 import typing
 
 from ..files.program import B_ADDRESS, BNEZ, C_ADDRESS, INDEXED, OPERANDS, REGISTERS, Entry, Instruction, Program, Row
+from ..rules.answer import Breach
 from .cells import address_text
-from .fault import TextFault
 from .one_width import one_width, own
 from .walks import Stuck, walk
 
@@ -85,7 +83,7 @@ def is_same(lines: list[str], entry: Entry, widths: typing.Iterable[int]) -> boo
     try:
         again = assemble("\n".join(lines).encode()).entries[0]
         return one_width(again) == one_width(entry) and all(walk(again, n) == walk(entry, n) for n in widths)
-    except (TextFault, Stuck):
+    except (Breach, Stuck):
         return False
 
 

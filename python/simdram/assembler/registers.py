@@ -1,12 +1,10 @@
 """The registers that the assembler gives out: those that the program does not name itself."""
 
-from __future__ import annotations
-
 import typing
 
 from ..files.program import OPERANDS, REGISTERS
+from ..rules.answer import Breach
 from ..rules.tokens import Token
-from .fault import TextFault
 from .tree import Command, For, If, Jump, Plain
 
 
@@ -44,7 +42,7 @@ class Registers:
         free = [register for register in range(REGISTERS) if register not in self.holds]
         if not free:
             held = ", ".join(f"r{register} {said}" for register, said in sorted(self.holds.items()))
-            raise TextFault(token, "register", f"there is no register left for {what}: {held}",
+            raise Breach(token, "register", f"there is no register left for {what}: {held}",
                             "fewer subscripts in one loop, or fewer loops in each other, take fewer registers")
         self.holds[free[0]] = what
         return free[0]

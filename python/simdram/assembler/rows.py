@@ -1,14 +1,12 @@
 """Rows of commands as a text writes them: cells, addresses, operands with their subscripts."""
 
-from __future__ import annotations
-
 import re
 
 from ..files.decode import B_ADDRESSES, RAISED
 from ..files.program import B_ADDRESS, C_ADDRESS, INDEXED, SOURCE
+from ..rules.answer import Breach
 from ..rules.tokens import NAME, NUMBER, Token
 from .cells import BY_CELLS, NAMES as CELLS, PAIRS, SINGLES, TRIPLES, address_text
-from .fault import TextFault
 from .forms import N, Form, number
 from .lexer import Tokens, said
 from .names import Names, check_register, register_of
@@ -25,7 +23,7 @@ def read_row(tokens: Tokens, names: Names, loops: list[str]) -> Operand:
     if tokens.is_at("~") or token.text in CELLS:
         return read_cells(tokens)
     if token.kind != NAME:
-        raise TextFault(token, "syntax", f"{said(token)} stands where a row is expected", "as `T0`, `{T0, T1, T2}`, `a[i]` or `C0`")
+        raise Breach(token, "syntax", f"{said(token)} stands where a row is expected", "as `T0`, `{T0, T1, T2}`, `a[i]` or `C0`")
     match = ADDRESS.fullmatch(token.text)
     if match and token.text not in names.known:
         tokens.next()
@@ -37,7 +35,7 @@ def address(token: Token, group: str, which: int) -> Operand:
     """An address by its group and number."""
     most = B_ADDRESSES if group == "B" else 2
     if which >= most:
-        raise TextFault(token, "row", f"there is no address {token.text}", f"the addresses are {group}0 to {group}{most - 1}")
+        raise Breach(token, "row", f"there is no address {token.text}", f"the addresses are {group}0 to {group}{most - 1}")
     return Operand(token, B_ADDRESS if group == "B" else C_ADDRESS, which)
 
 
@@ -46,9 +44,9 @@ def read_cell(tokens: Tokens) -> str:
     tilde = tokens.took("~")
     token = tokens.name("a cell")
     if token.text not in CELLS:
-        raise TextFault(token, "row", f"`{token.text}` is no cell", f"the cells are {', '.join(CELLS)}")
+        raise Breach(token, "row", f"`{token.text}` is no cell", f"the cells are {', '.join(CELLS)}")
     if tilde and not token.text.startswith("DCC"):
-        raise TextFault(token, "row", f"{token.text} has no n-wordline", "only DCC0 and DCC1 are read and written complemented")
+        raise Breach(token, "row", f"{token.text} has no n-wordline", "only DCC0 and DCC1 are read and written complemented")
     return f"{'~' if tilde else ''}{token.text}"
 
 
@@ -60,7 +58,7 @@ def read_cells(tokens: Tokens) -> Operand:
     found = BY_CELLS.get(frozenset(cells)) if len(set(cells)) == len(cells) <= 2 else None
     if found is None:
         right = f"the pairs are {PAIRS}" if len(cells) == 2 else f"three cells are written as {TRIPLES}"
-        raise TextFault(token, "row", f"no address raises {'+'.join(cells)}", right)
+        raise Breach(token, "row", f"no address raises {'+'.join(cells)}", right)
     return Operand(token, B_ADDRESS, found)
 
 
@@ -72,7 +70,7 @@ def read_triple(tokens: Tokens) -> Operand:
     tokens.expect("}", " after the cells")
     found = BY_CELLS.get(frozenset(cells)) if len(cells) == 3 else None
     if found is None:
-        raise TextFault(token, "row", f"no address raises {{{', '.join(cells)}}}", f"the triples are {TRIPLES}")
+        raise Breach(token, "row", f"no address raises {{{', '.join(cells)}}}", f"the triples are {TRIPLES}")
     return Operand(token, B_ADDRESS, found)
 
 
@@ -82,18 +80,18 @@ def read_operand(tokens: Tokens, names: Names, loops: list[str]) -> Operand:
     named = names.find(token)
     if named.space not in INDEXED:
         if tokens.is_at("["):
-            raise TextFault(tokens.here, "row", f"{token.text} is one row, and has no subscript", f"`{token.text}`")
+            raise Breach(tokens.here, "row", f"{token.text} is one row, and has no subscript", f"`{token.text}`")
         return Operand(token, named.space, named.which)
     if not tokens.took("["):
         if named.kind == "word":
-            raise TextFault(token, "row", f"{token.text} is a word, of which one row is meant", f"`{token.text}[i]` in a loop over i, "
+            raise Breach(token, "row", f"{token.text} is a word, of which one row is meant", f"`{token.text}[i]` in a loop over i, "
                             f"or `{token.text}[0]`")
         return Operand(token, named.space, named.which, number(0))
     place = tokens.here
     index = read_index(tokens, loops)
     tokens.expect("]", " after the subscript")
     if named.kind == "bit" and isinstance(index, Form) and index != number(0):
-        raise TextFault(place, "row", f"{token.text} is a bit, with one row", f"`{token.text}`")
+        raise Breach(place, "row", f"{token.text} is a bit, with one row", f"`{token.text}`")
     return Operand(token, named.space, named.which, index)
 
 
@@ -104,7 +102,7 @@ def read_index(tokens: Tokens, loops: list[str]) -> int | Form:
     place = tokens.here
     form = read_form(tokens, loops)
     if not form.terms and form.number < 0:
-        raise TextFault(place, "row", f"the subscript is {form}", "positions begin at 0")
+        raise Breach(place, "row", f"the subscript is {form}", "positions begin at 0")
     return form
 
 
@@ -123,7 +121,7 @@ def read_term(tokens: Tokens, loops: list[str]) -> Form:
     if token.kind == NUMBER:
         value = int(token.text)
         if value > 1023:
-            raise TextFault(token, "number", f"{token.text} is too great", "registers hold 0 to 1023")
+            raise Breach(token, "number", f"{token.text} is too great", "registers hold 0 to 1023")
         return Form().plus(read_name(tokens.next(), loops), value) if tokens.took("*") else number(value)
     return read_name(token, loops)
 
@@ -132,7 +130,7 @@ def read_name(token: Token, loops: list[str]) -> Form:
     """n or a loop variable."""
     if token.kind != NAME or token.text not in (N, *loops):
         names = ", ".join([N, *loops])
-        raise TextFault(token, "name", f"{said(token)} stands where a number, n or a loop variable is expected", f"here there are {names}")
+        raise Breach(token, "name", f"{said(token)} stands where a number, n or a loop variable is expected", f"here there are {names}")
     return Form.of(token.text)
 
 
@@ -140,9 +138,9 @@ def check_places(rows: tuple[Operand, ...]) -> None:
     """The first row may be activated first, and the second written."""
     first = rows[0]
     if first.space == B_ADDRESS and len(RAISED[first.which]) == 2:
-        raise TextFault(first.token, "row", f"B{first.which}, {address_text(first.which)}, cannot be activated first: two cells would "
+        raise Breach(first.token, "row", f"B{first.which}, {address_text(first.which)}, cannot be activated first: two cells would "
                         "share their charge", f"one cell is sensed ({SINGLES}), or the majority of three ({TRIPLES})")
     for row in rows[1:]:
         if row.space in (C_ADDRESS, SOURCE):
             what = "C0 and C1 keep 0 and 1" if row.space == C_ADDRESS else f"{row.token.text} is a source, which stays as it is"
-            raise TextFault(row.token, "row", f"{what}, and cannot be written", "the second row is a cell, a result, scratch or a spill row")
+            raise Breach(row.token, "row", f"{what}, and cannot be written", "the second row is a cell, a result, scratch or a spill row")

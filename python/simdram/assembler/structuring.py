@@ -1,7 +1,5 @@
 """From instructions back to loops: what registers hold is followed as sums of n and loop variables."""
 
-from __future__ import annotations
-
 import typing
 
 from ..files.program import ADD, ADDI, BNEZ, DONE, INDEXED, MOV, REGISTERS, SETI, SETN, SETT, SUBI, Entry, Instruction
@@ -94,7 +92,7 @@ class Structuring:
     def found(self, first: int, last: int) -> Loop:
         """The loop between two places."""
         set_there, steps, depth = set(), {}, 0
-        heads = {one.number: k for k, one in enumerate(self.code) if first < one.number <= k < last and one.kind == BNEZ}
+        heads = {start: end for start, end in self.spans.items() if first < start <= end < last}
         for k in range(first, last):
             one = self.code[k]
             depth += k in heads

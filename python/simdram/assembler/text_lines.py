@@ -1,16 +1,14 @@
 """The lines of a text of microprograms from which the instructions of an entry were assembled, where the text is at hand."""
 
-from __future__ import annotations
-
 import os
 import typing
 
 from ..files.fault import FileFault
 from ..files.program import Entry
 from ..files.store import load
+from ..rules.answer import Breach
 from ..rules.tokens import line_of
 from .encode import entry_of
-from .fault import TextFault
 from .lowering import lowered
 from .parser import parsed
 
@@ -57,7 +55,7 @@ def text_lines(prog: str, entry: Entry) -> TextLines | None:
     for path in texts_beside(prog):
         try:
             found = lines_in(path, entry)
-        except (TextFault, FileFault, OSError):
+        except (Breach, FileFault, OSError):
             continue
         if found:
             return found

@@ -1,7 +1,5 @@
 """A text as a tree: programs, their heads and their statements."""
 
-from __future__ import annotations
-
 import dataclasses
 import typing
 

@@ -1,7 +1,5 @@
 """Walks of a microprogram at a width: its row commands as docs/MODEL.md has the trace, and how often each instruction is executed."""
 
-from __future__ import annotations
-
 import collections
 import typing
 

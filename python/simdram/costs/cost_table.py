@@ -11,11 +11,8 @@ from the second file on the ratio of its commands to the first file's.
 commands, rows and ratio, for each file. --total is a table for a paper: the commands alone, with a column for each width.
 """
 
-from __future__ import annotations
-
 import argparse
 import os
-import typing
 
 from ..launcher.faults import Fault
 from ..launcher.settings import Settings
@@ -38,7 +35,7 @@ def row_of(cost: EntryCost, width: int, banks: int, words: int) -> list:
     return [cost.name, width, cost.aap, cost.ap, cost.commands, banks, cost.commands * banks, f"{each:.6g}", cost.rows, ""]
 
 
-Costs = typing.Dict[typing.Tuple[str, int], typing.List[EntryCost]]
+Costs = dict[tuple[str, int], list[EntryCost]]
 
 
 def of_one(path: str, widths: list[int], found: Costs, banks: int, words: int) -> Rows:

@@ -1,7 +1,5 @@
 """What the entries of a program file cost at a width, as `simdram cost` counts them."""
 
-from __future__ import annotations
-
 import dataclasses
 import tempfile
 import typing

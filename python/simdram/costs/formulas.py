@@ -4,8 +4,6 @@ A formula has numbers, `n`, brackets, `+`, `-`, `*`, `/`, `//` (rounded down), `
 `floor(..)`. Whole numbers and fractions are exact.
 """
 
-from __future__ import annotations
-
 import ast
 import fractions
 import math
@@ -14,7 +12,7 @@ import typing
 
 from ..launcher.faults import Fault
 
-Number = typing.Union[int, float, fractions.Fraction]
+Number = int | float | fractions.Fraction
 # nothing that is drawn comes near this
 GREATEST = 10**30
 LONGEST = 200

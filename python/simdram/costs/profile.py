@@ -6,8 +6,6 @@ which the code can jump. Commands that implement several statements in one loop 
 `times` says how often a part is executed; without an operation text there are parts alone. Counts are those of one bank.
 """
 
-from __future__ import annotations
-
 import argparse
 import csv
 import dataclasses
@@ -73,7 +71,6 @@ def share(row: Row, whole: int) -> str:
 
 
 def cells_of(row: Row, whole: int, has_times: bool) -> list[str]:
-    """A row of the table."""
     numbers = [row.commands, row.aap, row.ap, *([row.times] if has_times else [])]
     return [share(row, whole), *map(str, numbers), row.what]
 

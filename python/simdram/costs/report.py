@@ -8,8 +8,6 @@ stand in, the commands of one bank, and those for each element: 64 elements stan
 Banks work at the same time, so the time of a wave is that of the bank with the most commands.
 """
 
-from __future__ import annotations
-
 import argparse
 import json
 import re
@@ -22,7 +20,8 @@ from ..launcher.faults import Fault
 from ..launcher.overwrite import content
 from ..launcher.settings import Settings
 from ..launcher.tool_parser import tool_parser
-from ..rules.script_rules import Instruction, read_script
+from ..rules.script_rules import Instruction, loaded_script
+from .table_formats import as_text
 
 OK = re.compile(r"(\d+) ok aap=(\d+) ap=(\d+)")
 PRINTED = re.compile(r"(\d+) (\w+(?:\[\d+(?::\d+)?\])?):((?: \d+)+)")
@@ -35,16 +34,12 @@ COLUMNS = ("number", "status", "aap", "ap", "banks", "aap_per_bank", "ap_per_ban
 class Script(typing.NamedTuple):
     """A script's instructions, and their lines."""
 
-    instructions: typing.List[Instruction]
-    lines: typing.List[str]
+    instructions: list[Instruction]
+    lines: list[str]
 
     @classmethod
-    def load(cls, path: str) -> Script:
-        """The script in a file."""
-        data = load(path, "script")
-        instructions, fault = read_script(path, data)
-        if fault:
-            raise Fault(f"{path} {fault.place}: {fault.kind}: {fault.rule}")
+    def load(cls, path: str) -> "Script":
+        instructions, data = loaded_script(path)
         ends = [data[one.head.at:].split(b"\n", 1)[0] for one in instructions]
         return cls(instructions, [line.decode("utf-8", "replace").partition("#")[0].strip() for line in ends])
 
@@ -116,7 +111,6 @@ def host_rows(totals: dict, table: Table) -> dict:
 
 
 def cell(found: dict, name: str) -> str:
-    """A cell of the table."""
     if name == "status" and found["status"] == "refused":
         return " ".join(["refused", found["word"], *map(str, found["at"])])
     given = found.get(name, "")
@@ -125,15 +119,12 @@ def cell(found: dict, name: str) -> str:
 
 def table_of(made: dict) -> str:
     """The report as a table, with the sums over all banks last."""
-    rows = [COLUMNS, *([cell(found, name) for name in COLUMNS] for found in made["instructions"])]
-    widths = [max(len(row[k]) for row in rows) for k in range(len(COLUMNS))]
-    lines = ["  ".join(text.ljust(width) for text, width in zip(row, widths)).rstrip() for row in rows]
-    return "\n".join([*lines, "all banks: " + " ".join(f"{name}={number}" for name, number in made["totals"].items())])
+    rows = [list(COLUMNS), *([cell(found, name) for name in COLUMNS] for found in made["instructions"])]
+    return as_text(rows) + "all banks: " + " ".join(f"{name}={number}" for name, number in made["totals"].items())
 
 
 def parser() -> argparse.ArgumentParser:
-    made = tool_parser("report", __name__)
-    made.add_argument("report", metavar="REPORT", nargs="?")
+    made = tool_parser("report", __name__, "[REPORT]")
     made.add_argument("--json", action="store_true", help="one JSON object")
     made.add_argument("--script", metavar="SCRIPT", help="the script that was executed; needs --image")
     made.add_argument("--image", metavar="IMAGE", help="the image that it was executed on")

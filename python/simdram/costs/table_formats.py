@@ -1,13 +1,11 @@
 """A table as text in columns, as CSV, as Markdown and as LaTeX. The first row is the head."""
 
-from __future__ import annotations
-
 import csv
 import io
 import re
 import typing
 
-Rows = typing.List[list]
+Rows = list[list]
 # what LaTeX reads as more than itself
 LATEX = {"\\": r"\textbackslash{}", "~": r"\textasciitilde{}", "^": r"\textasciicircum{}",
          **{sign: f"\\{sign}" for sign in "&%$#_{}"}}
@@ -15,7 +13,6 @@ NUMBER = re.compile(r"-?\d+(\.\d+)?%?|")
 
 
 def texts(rows: Rows) -> list[list[str]]:
-    """The cells as texts."""
     return [[str(cell) for cell in row] for row in rows]
 
 

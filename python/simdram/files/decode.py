@@ -4,8 +4,6 @@ An address is a group, `B`, `C` or `D`, and a number. A wordline is a cell of ea
 and written complemented, through its n-wordline.
 """
 
-from __future__ import annotations
-
 import typing
 
 GROUPS = "BCD"
@@ -32,7 +30,7 @@ RAISED = (
 )
 
 
-def raised(group: str, number: int) -> typing.Tuple[Line, ...]:
+def raised(group: str, number: int) -> tuple[Line, ...]:
     """The wordlines that an address raises: those of the table for group B, and its own row for C and D."""
     return RAISED[number] if group == "B" else (Line(f"{group}{number}"),)
 

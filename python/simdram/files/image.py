@@ -3,8 +3,6 @@
 Element e of an object stands in bank e / (64 * words), column e modulo (64 * words), its bit k in row base + k.
 """
 
-from __future__ import annotations
-
 import typing
 
 from . import columns
@@ -40,7 +38,7 @@ class Image(Table):
     """An image: its geometry, its objects in order, and the contents of all rows."""
 
     def __init__(self, banks: int, rows: int, words: int, objects: typing.Iterable[Object] = (),
-                 contents: typing.Optional[bytes] = None) -> None:
+                 contents: bytes | None = None) -> None:
         wrong = geometry_fault(banks, rows, words)
         if wrong:
             raise ValueError(wrong)
@@ -48,7 +46,7 @@ class Image(Table):
         self.contents = bytearray(contents if contents is not None else 8 * banks * rows * words)
 
     @classmethod
-    def read(cls, data: bytes, path: str = "image") -> Image:
+    def read(cls, data: bytes, path: str = "image") -> "Image":
         """The image of a file's bytes; what is no image file is refused at the first field that breaks its rule."""
         fields = Fields(data, path)
         table = Table.taken(fields, MAGIC, "image")
@@ -57,12 +55,10 @@ class Image(Table):
         return cls(table.banks, table.rows, table.words, table.objects, contents)
 
     @classmethod
-    def load(cls, path: str) -> Image:
-        """The image in a file."""
+    def load(cls, path: str) -> "Image":
         return cls.read(load(path, "image"), path)
 
     def file(self) -> bytes:
-        """The image file."""
         return self.head(MAGIC) + bytes(self.contents)
 
     def save(self, path: str) -> None:
@@ -70,7 +66,6 @@ class Image(Table):
         store(path, self.file())
 
     def find(self, name: str) -> Object:
-        """The object of this name."""
         found = super().find(name)
         if found:
             return found
@@ -105,7 +100,7 @@ class Image(Table):
         """Where a row begins in the contents."""
         return 8 * self.words * (self.rows * bank + row)
 
-    def cells(self, name: str, low: int = 0, width: typing.Optional[int] = None) -> typing.Tuple[bytes, int]:
+    def cells(self, name: str, low: int = 0, width: int | None = None) -> tuple[bytes, int]:
         """The object's elements, or so many bits of them from `low` on, as cells, low byte first, and the size of a cell."""
         found, cells = self.find(name), []
         width = width or found.width
@@ -117,7 +112,7 @@ class Image(Table):
                 cells.append(columns.cells_of(rows, kept, size))
         return b"".join(cells), size
 
-    def get(self, name: str) -> typing.List[int]:
+    def get(self, name: str) -> list[int]:
         """The values of the object's elements."""
         return columns.numbers_of(*self.cells(name))
 

@@ -16,8 +16,6 @@ where it is of another kind, as docs/FORMATS.md says.
     simdram image get mac.img a
 """
 
-from __future__ import annotations
-
 import re
 import sys
 import typing
@@ -71,7 +69,6 @@ def add(image: Image, word: str) -> None:
 
 
 def show(image: Image) -> typing.Iterator[str]:
-    """What an image has, as lines."""
     yield f"{image.banks} banks of {image.rows} rows of {image.words} words: {image.columns} columns a bank"
     for one in image.objects:
         segments = -(-one.count // image.columns)

@@ -4,8 +4,6 @@ A file is stored as a whole: into a new file beside it, NAME.new0 or the next fr
 as the program does it. So a kill or a full disk leaves the old file or the new one.
 """
 
-from __future__ import annotations
-
 import contextlib
 import errno
 import os
@@ -72,7 +70,7 @@ def left_beside(path: str) -> list[str]:
 
 
 @contextlib.contextmanager
-def new_file(path: str) -> typing.Iterator[typing.Tuple[typing.BinaryIO, str]]:
+def new_file(path: str) -> typing.Iterator[tuple[typing.BinaryIO, str]]:
     """A new file beside this one, and its name; it is removed where what is done with it fails."""
     for number in range(NAMES):
         name = beside(path, number)

@@ -1,10 +1,7 @@
 """The head of an image or a trace: a geometry, the objects that lie in its rows, and which rows are free."""
 
-from __future__ import annotations
-
 import dataclasses
 import struct
-import typing
 
 from .fields import Fields, name_field
 
@@ -33,12 +30,12 @@ class Object:
         """The first row after it."""
         return self.base + self.width
 
-    def meets(self, other: Object) -> bool:
+    def meets(self, other: "Object") -> bool:
         """Whether two objects have a row in common."""
         return self.base < other.past and other.base < self.past
 
 
-def geometry_fault(banks: int, rows: int, words: int) -> typing.Optional[str]:
+def geometry_fault(banks: int, rows: int, words: int) -> str | None:
     """Why no chip has this geometry, or None where one can have it."""
     for name, number, (least, most) in (("banks", banks, BANKS), ("rows", rows, ROWS), ("words", words, WORDS)):
         if not least <= number <= most:
@@ -55,15 +52,15 @@ class Table:
     banks: int
     rows: int
     words: int
-    objects: typing.List[Object] = dataclasses.field(default_factory=list)
+    objects: list[Object] = dataclasses.field(default_factory=list)
 
     @classmethod
-    def read(cls, head: bytes, path: str) -> Table:
+    def read(cls, head: bytes, path: str) -> "Table":
         """The table that an image file begins with."""
         return Table.taken(Fields(head, path), MAGIC, "image")
 
     @staticmethod
-    def taken(fields: Fields, magic: bytes, kind: str) -> Table:
+    def taken(fields: Fields, magic: bytes, kind: str) -> "Table":
         """The table that a file of this kind begins with, taken from its fields."""
         fields.magic(magic, kind)
         fields.within(2, 1, 1, "version", "the version")
@@ -75,11 +72,11 @@ class Table:
         head = HEAD.pack(magic, 1, self.banks, self.rows, self.words, len(self.objects))
         return head + b"".join(name_field(one.name) + RECORD.pack(one.width, one.base, one.count) for one in self.objects)
 
-    def find(self, name: str) -> typing.Optional[Object]:
+    def find(self, name: str) -> Object | None:
         """The object of this name, if there is one."""
         return next((one for one in self.objects if one.name == name), None)
 
-    def copy(self) -> Table:
+    def copy(self) -> "Table":
         """Another table of the same objects."""
         return Table(self.banks, self.rows, self.words, list(self.objects))
 
@@ -97,7 +94,7 @@ class Table:
         """In how many banks so many elements stand."""
         return -(-count // self.columns)
 
-    def pieces(self) -> typing.List[typing.Tuple[int, int]]:
+    def pieces(self) -> list[tuple[int, int]]:
         """The free pieces of the rows for objects: first row and number of rows, upwards."""
         found, at = [], 0
         for one in sorted(self.objects, key=lambda one: one.base):
@@ -108,7 +105,7 @@ class Table:
             found.append((at, self.rows - SPILL_ROWS - at))
         return found
 
-    def least_free(self, size: int) -> typing.Optional[int]:
+    def least_free(self, size: int) -> int | None:
         """The first row of the least free piece of so many rows."""
         return next((first for first, free in self.pieces() if free >= size), 0 if size == 0 else None)
 
@@ -121,7 +118,7 @@ class Table:
         return max((one.past for one in self.objects), default=0) + size + SPILL_ROWS
 
 
-def read_geometry(fields: Fields) -> typing.Tuple[int, int, int]:
+def read_geometry(fields: Fields) -> tuple[int, int, int]:
     """The banks, rows and words of an image or a trace."""
     banks = fields.within(2, *BANKS, "geometry", "the number of banks")
     rows = fields.within(2, *ROWS, "geometry", "the number of rows")
@@ -132,9 +129,9 @@ def read_geometry(fields: Fields) -> typing.Tuple[int, int, int]:
     return banks, rows, words
 
 
-def read_table(fields: Fields, banks: int, rows: int, words: int) -> typing.List[Object]:
+def read_table(fields: Fields, banks: int, rows: int, words: int) -> list[Object]:
     """The table of objects of an image or a trace."""
-    objects: typing.List[Object] = []
+    objects: list[Object] = []
     for _ in range(fields.within(2, 0, OBJECTS, "object", "the number of objects")):
         name = fields.name("object", {one.name for one in objects})
         width = fields.within(1, *WIDTHS, "object", f"the width of {name}")

@@ -4,8 +4,6 @@ An input has its symbol's name, or i0, i1, .. by its number, an output o0, o1, .
 or as l0, and an output c_next, which begins with the latch's reset value.
 """
 
-from __future__ import annotations
-
 import typing
 
 from ..launcher.faults import Fault

@@ -1,8 +1,6 @@
 """Combinational netlists in BLIF: inputs, outputs, tables, and gates of a library. A table of more than three inputs becomes
 several."""
 
-from __future__ import annotations
-
 from ..launcher.faults import Fault
 from .cell_library import Cell, own_cells
 from .netlist import Netlist, Table

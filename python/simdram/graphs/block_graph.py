@@ -5,8 +5,6 @@ reads, and its states, in this order. An output is an assigned word at the posit
 value, as `c_next`. Over several positions a word has a number for each, as `a_0`.
 """
 
-from __future__ import annotations
-
 from ..rules.op_shapes import OpShape, Statement
 from .mig import Graph
 

@@ -1,7 +1,5 @@
 """The functions of library gates, as `.gate` lines name them: those that yosys has itself, and those of a genlib file."""
 
-from __future__ import annotations
-
 import re
 import typing
 

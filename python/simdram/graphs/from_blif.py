@@ -9,8 +9,6 @@ language are changed, which a comment says. A netlist of more than four inputs o
 the instructions that call them in order. What breaks a limit of the language is refused with its rule.
 """
 
-from __future__ import annotations
-
 import argparse
 import collections
 import re
@@ -20,7 +18,7 @@ from ..files.store import load
 from ..launcher.faults import Fault
 from ..launcher.settings import Settings
 from ..launcher.tool_parser import tool_parser
-from ..rules.ops_rules import RESERVED, SOURCES, explain_ops
+from ..rules.ops_rules import RESERVED, RESULTS, SOURCES, explain_ops
 from ..rules.tokens import NAME_MAX
 from ..rules.word_ops import GATES
 from . import aiger_file
@@ -29,7 +27,7 @@ from .cell_library import cells_in
 from .least_gates import LETTER, spelled
 from .least_gates import text as expression
 from .netlist import NEXT, Netlist, in_order
-from .splitting import RESULTS, function, split
+from .splitting import function, split
 
 
 class Names:

@@ -9,8 +9,6 @@ BLIF has a table for each majority, DOT a dashed edge for each complement, AIGER
 in .aag. Without OUT the graph is printed.
 """
 
-from __future__ import annotations
-
 import argparse
 import sys
 

@@ -4,8 +4,6 @@ A function is its values on the eight patterns of x, y and z, as a number of eig
 `and`, `or`, `maj` 1, `xor` 3, `not` 0. A function and its complement weigh the same.
 """
 
-from __future__ import annotations
-
 import functools
 import itertools
 import re

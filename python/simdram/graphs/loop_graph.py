@@ -1,7 +1,5 @@
 """The graph of the loop that a serial block is compiled to: a node for each triple activation of an iteration."""
 
-from __future__ import annotations
-
 import itertools
 import re
 import typing
@@ -11,7 +9,7 @@ from ..files.program import B_ADDRESS, C_ADDRESS, Row
 from ..launcher.faults import Fault
 from ..launcher.settings import Settings
 from ..rules.op_shapes import OpShape, Statement
-from ..rules.ops_rules import SOURCES, op_shape
+from ..rules.ops_rules import RESULTS, SOURCES, op_shape
 from ..steps import op_texts
 from ..steps.board import Board, done_by, over
 from ..steps.cell_values import ALL, Names, drawn
@@ -21,7 +19,6 @@ from ..steps.row_names import RowNames
 from .block_graph import positions_of, read_names, written
 from .mig import ONE, ZERO, Graph
 
-RESULTS = 2
 SUBSCRIPT = re.compile(r"\[i([+-]\d+)?\]$")
 
 

@@ -4,14 +4,23 @@ A literal is twice the number of what it reads, and one more where it is complem
 the literals 0 and 1 are the constants; then come the inputs, and then the nodes.
 """
 
-from __future__ import annotations
-
 import dataclasses
 import typing
 
 from ..rules.word_ops import GATE_VALUES
 
 ZERO, ONE = 0, 1
+
+
+def normal_majority(*literals: int) -> int | tuple[tuple[int, ...], int]:
+    """The literal that decides a majority of three, where two are equal or opposite; else the three in order, of which one at most is
+    complemented, and whether the majority of these is complemented."""
+    x, y, z = sorted(literals)
+    for one, two, three in ((x, y, z), (x, z, y), (y, z, x)):
+        if one >> 1 == two >> 1:
+            return one if one == two else three
+    turned = int((x & 1) + (y & 1) + (z & 1) > 1)
+    return (x ^ turned, y ^ turned, z ^ turned), turned
 
 
 @dataclasses.dataclass
@@ -33,15 +42,10 @@ class Graph:
 
     def maj(self, x: int, y: int, z: int) -> int:
         """The majority of three literals; equal and opposite ones decide it without a node."""
-        for one, two, three in ((x, y, z), (x, z, y), (y, z, x)):
-            if one == two:
-                return one
-            if one == two ^ 1:
-                return three
-        x, y, z = sorted((x, y, z))
-        # of a node and its complement one is kept: the one with fewer complements
-        turned = (x & 1) + (y & 1) + (z & 1) > 1
-        key = (x ^ turned, y ^ turned, z ^ turned)
+        found = normal_majority(x, y, z)
+        if isinstance(found, int):
+            return found
+        key, turned = found
         if key not in self.nodes:
             self.items.append(key)
             self.nodes[key] = 2 * (len(self.items) - 1)

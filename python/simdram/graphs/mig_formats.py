@@ -1,7 +1,5 @@
 """A majority-inverter graph as DOT, BLIF or AIGER."""
 
-from __future__ import annotations
-
 import itertools
 
 from .mig import Graph, live

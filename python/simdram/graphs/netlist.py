@@ -1,7 +1,5 @@
 """Combinational netlists: inputs, outputs, and tables. An input c and an output c_next are a state."""
 
-from __future__ import annotations
-
 import dataclasses
 
 from ..launcher.faults import Fault

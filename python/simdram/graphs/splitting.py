@@ -3,16 +3,13 @@
 A state is computed in one netlist with all that it is computed from at a position; others find what it holds there as a word.
 """
 
-from __future__ import annotations
-
 import typing
 
 from ..launcher.faults import Fault
-from ..rules.ops_rules import SOURCES, WEIGHT
+from ..rules.ops_rules import RESULTS, SOURCES, WEIGHT
 from .least_gates import spelled
 from .netlist import NEXT, Netlist, Table, in_order
 
-RESULTS = 2
 AT = "_at"
 COPY = 0b10
 

@@ -1,7 +1,5 @@
 """Where built programs stand, whether they are older than their sources, and the build without proofs."""
 
-from __future__ import annotations
-
 import fcntl
 import os
 import pathlib

@@ -3,8 +3,6 @@
 One table for the help texts, the check of the arguments, and which files a command reads and writes.
 """
 
-from __future__ import annotations
-
 import dataclasses
 
 # the bytes that a file of a kind begins with; texts have none

@@ -5,8 +5,6 @@ from a folder of links to the toolchain whose `clang` is a script: it calls the 
 the sanitizer. The program does the same, some 50 times as fast.
 """
 
-from __future__ import annotations
-
 import pathlib
 import shlex
 import shutil
@@ -28,7 +26,6 @@ while [ "$left" -gt 0 ]; do
 done
 exec {clang} "$@"
 """
-
 
 def link_all(source: pathlib.Path, folder: pathlib.Path, but: tuple[str, ...]) -> None:
     """Makes a folder with a link to each file of another one, but for some names."""

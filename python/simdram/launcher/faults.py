@@ -1,7 +1,5 @@
 """What ends a tool or the launcher early: one line, and a status."""
 
-from __future__ import annotations
-
 # the launcher's own status, where it cannot give the program
 NO_PROGRAM = 125
 # a tool's status where its words or a file are wrong

@@ -1,7 +1,5 @@
 """A command of the program: from the command line to the exit status."""
 
-from __future__ import annotations
-
 import contextlib
 import errno
 import os

@@ -9,8 +9,6 @@ it for the tools. A command of the program is run between `Written(..)` and `set
 each copy is made before, and removed where the command left the file as it was.
 """
 
-from __future__ import annotations
-
 import contextlib
 import errno
 import os

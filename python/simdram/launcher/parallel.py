@@ -1,16 +1,14 @@
 """One function on many items, on all processors, with a progress bar on a terminal."""
 
-from __future__ import annotations
-
 import concurrent.futures
 import itertools
 import os
-import shutil
 import sys
 import time
 import typing
 
 from . import run_program
+from .say import show
 
 Item = typing.TypeVar("Item")
 Result = typing.TypeVar("Result")
@@ -44,17 +42,17 @@ class Bar:
         self.done += 1
         seconds = time.monotonic() - self.began
         if self.is_shown and seconds > SHOWN_AFTER:
-            shown = self.line(seconds)[:shutil.get_terminal_size().columns - 1]
-            print(f"\r{shown}\033[K", end="", file=sys.stderr, flush=True)
+            show(self.line(seconds))
 
     def end(self) -> None:
         """The bar's line is empty again."""
         if self.is_shown:
-            print("\r\033[K", end="", file=sys.stderr, flush=True)
+            show("")
 
 
-def in_parallel(work: typing.Callable[[Item], Result], items: typing.Sequence[Item], what: str = "") -> list[Result]:
-    """The results of all items, in their order. The first fault, or Ctrl-C, stops what has not ended yet."""
+def in_parallel(work: typing.Callable[[Item], Result], items: typing.Sequence[Item], what: str = "",
+                stop: typing.Callable[[], None] = lambda: None) -> list[Result]:
+    """The results of all items, in their order. The first fault, or Ctrl-C, stops what has not ended yet; `stop` is called then."""
     bar, workers = Bar(what, len(items)), processors()
     left, found = iter(enumerate(items)), {}
     pool = concurrent.futures.ThreadPoolExecutor(workers)
@@ -66,6 +64,7 @@ def in_parallel(work: typing.Callable[[Item], Result], items: typing.Sequence[It
                 bar.step()
                 waiting.update((pool.submit(work, item), k) for k, item in itertools.islice(left, 1))
     except BaseException:
+        stop()
         pool.shutdown(wait=False, cancel_futures=True)
         run_program.stop_all()
         raise

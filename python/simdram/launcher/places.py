@@ -1,7 +1,5 @@
 """Where the repository and its program stand."""
 
-from __future__ import annotations
-
 import os
 import pathlib
 

@@ -1,7 +1,5 @@
 """Finds the program, builds it if necessary, and runs it. No other module runs it."""
 
-from __future__ import annotations
-
 import contextlib
 import math
 import os

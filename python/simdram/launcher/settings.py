@@ -1,7 +1,5 @@
 """The launcher's settings: from the command line, the environment, and the file `.simdram` at the top of the repository."""
 
-from __future__ import annotations
-
 import dataclasses
 import os
 import pathlib

@@ -1,7 +1,5 @@
 """Standard streams that are closed, full, or read no more."""
 
-from __future__ import annotations
-
 import contextlib
 import os
 import sys

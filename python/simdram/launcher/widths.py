@@ -1,7 +1,5 @@
 """Lists of widths, such as `8`, `4,8,16` and `1-8,16`, as the program and the tools take them."""
 
-from __future__ import annotations
-
 import re
 
 from .faults import Fault

@@ -1,7 +1,5 @@
 """The words of a command of the program: its parser, and what is wrong with a command line that it refuses."""
 
-from __future__ import annotations
-
 import argparse
 import difflib
 import functools
@@ -88,7 +86,6 @@ def help_on(word: Word) -> str:
 
 
 def parser_of(command: Command) -> WordsParser:
-    """The parser of a command of the program."""
     made = WordsParser(prog=f"simdram {command.name}", description=command.says, add_help=False, formatter_class=argparse.RawTextHelpFormatter,
                        epilog=f"  simdram {command.example}\n\ndocs/FORMATS.md, How a command ends, has its statuses.")
     for word in command.words:

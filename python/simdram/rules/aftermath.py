@@ -1,7 +1,5 @@
 """What the launcher says on standard error after the program refused a file or an instruction."""
 
-from __future__ import annotations
-
 import os
 import shlex
 import stat

@@ -1,7 +1,5 @@
 """What is wrong with a file, where, and what would be right, as lines."""
 
-from __future__ import annotations
-
 import dataclasses
 import textwrap
 
@@ -24,7 +22,6 @@ class Answer:
     caret: tuple[int, int] = (0, 0)
 
     def lines(self) -> list[str]:
-        """The answer, as lines."""
         found = [f"{self.path} {self.place}: {self.kind}".replace(" : ", ": ")]
         if self.shown:
             found += caret_lines(self.shown, *self.caret)
@@ -45,11 +42,15 @@ class Refusal:
 
 
 class Breach(Exception):
-    """A token that breaks a rule: the kind, the rule in a sentence, and what would be right."""
+    """A token of a text that breaks a rule: the kind in a word, the rule in a sentence, and what would be right."""
 
     def __init__(self, token: Token, kind: str, rule: str, *right: str) -> None:
-        super().__init__(kind)
+        super().__init__(rule)
         self.token, self.kind, self.rule, self.right = token, kind, rule, right
+
+    def answer(self, path: str, data: bytes) -> Answer:
+        """The fault with its line and column in a file."""
+        return at_token(path, data, self.token, self.kind, self.rule, self.right)
 
 
 def near(word: str, known) -> str:

@@ -1,10 +1,8 @@
 """The answers on files: their first faults, and what a script or a query is refused with."""
 
-from __future__ import annotations
-
 import subprocess
 
-from ..assembler import TextFault, assemble
+from ..assembler import assemble
 from ..files.fault import FileFault
 from ..files.image import Image
 from ..files.program import Entry, Program
@@ -14,7 +12,7 @@ from ..launcher import run_program
 from ..launcher.commands import KINDS, MAGIC
 from ..launcher.overwrite import content
 from ..launcher.settings import Settings
-from .answer import Answer, Refusal, at_token
+from .answer import Answer, Breach, Refusal, at_token
 from .flips_rules import explain_flips
 from .ops_rules import explain_ops
 from .query_rules import read_query
@@ -58,28 +56,18 @@ def explain_bytes(kind: str, path: str, data: bytes) -> Answer | None:
     return None
 
 
-def explain_script(path: str, data: bytes) -> Answer | None:
-    """The first fault of a script."""
-    return read_script(path, data)[1]
-
-
-def explain_query(path: str, data: bytes) -> Answer | None:
-    """The first fault of a query."""
-    return read_query(path, data)[1]
-
-
 def explain_micro(path: str, data: bytes) -> Answer | None:
     """The first fault of a text of microprograms."""
     try:
         assemble(data)
-    except TextFault as fault:
+    except Breach as fault:
         return fault.answer(path, data)
     return None
 
 
 def first_fault(kind: str, path: str, data: bytes) -> Answer | None:
     """The first fault of a file of a kind, by itself."""
-    texts = {"ops": explain_ops, "script": explain_script, "query": explain_query, "micro": explain_micro}
+    texts = {"ops": explain_ops, "script": lambda *file: read_script(*file)[1], "query": lambda *file: read_query(*file)[1], "micro": explain_micro}
     if kind not in texts:
         return explain_bytes(kind, path, data)
     found = texts[kind](path, data)
@@ -89,7 +77,6 @@ def first_fault(kind: str, path: str, data: bytes) -> Answer | None:
 
 
 def answer_of(path: str, data: bytes, refusal: Refusal, what: str) -> Answer:
-    """A refusal as an answer."""
     return at_token(path, data, refusal.token, f"{what} refused {refusal.word}", refusal.rule, refusal.right)
 
 

@@ -6,8 +6,6 @@ scan is refused; with PROG and a width N after an operation text, what `verify` 
 needs SCRIPT and IMAGE. The status is 0 without a fault, else 1.
 """
 
-from __future__ import annotations
-
 import argparse
 
 from ..files.program import Program
@@ -86,8 +84,7 @@ def found_in(path: str, beside: dict, width: int, settings: Settings) -> list[An
 
 
 def parser() -> argparse.ArgumentParser:
-    made = tool_parser("explain", __name__)
-    made.add_argument("file", metavar="FILE")
+    made = tool_parser("explain", __name__, "FILE")
     made.add_argument("beside", metavar="BESIDE", nargs="*", default=[])
     return made
 

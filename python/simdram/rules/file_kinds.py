@@ -1,7 +1,5 @@
 """Which kind of file a file is: by its first bytes, its name's ending, or its first word."""
 
-from __future__ import annotations
-
 from ..files.store import load
 from ..launcher.commands import MAGIC
 from .query_rules import COMPARISONS, JOINS

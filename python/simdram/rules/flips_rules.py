@@ -1,9 +1,7 @@
 """Texts of flips: the first line that breaks a rule of docs/FORMATS.md."""
 
-from __future__ import annotations
-
 from ..files.table import Table
-from .answer import Answer, Breach, at_token
+from .answer import Answer, Breach
 from .script_rules import lines_of
 from .tokens import NUMBER, STRANGER, no_token, value_of
 
@@ -36,5 +34,5 @@ def explain_flips(path: str, data: bytes, instructions: int, table: Table) -> An
         try:
             least = check_line(line, least, instructions, table)
         except Breach as breach:
-            return at_token(path, data, breach.token, breach.kind, breach.rule, breach.right)
+            return breach.answer(path, data)
     return None

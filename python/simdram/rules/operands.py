@@ -1,7 +1,5 @@
 """Operands of objects: NAME, NAME[K] or NAME[LO:HI]."""
 
-from __future__ import annotations
-
 import dataclasses
 import typing
 
@@ -35,7 +33,7 @@ class Operand(typing.NamedTuple):
             return self.name.text
         return f"{self.name.text}[{self.low}]" if self.high == self.low + 1 else f"{self.name.text}[{self.low}:{self.high}]"
 
-    def of_copy(self, letter: str) -> Operand:
+    def of_copy(self, letter: str) -> "Operand":
         """The same bits of a guarded object's copy."""
         return self._replace(name=self.name._replace(text=letter + self.name.text))
 

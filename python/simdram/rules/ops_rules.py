@@ -1,16 +1,14 @@
 """Where an operation text breaks a rule of docs/LANGUAGE.md first, and what would be right there."""
 
-from __future__ import annotations
-
 from ..launcher.faults import Fault
 from . import word_ops
-from .answer import Answer, Breach, at_token, near
+from .answer import Answer, Breach, near
 from .op_shapes import OpShape, Statement
 from .op_tree import Expr, Op, gate, read
 from .tokens import END, NAME, NAME_MAX, STRANGER, Token, is_long, no_token, tokens
 
 RESERVED = ("op", "word", "bit", "serial", "up", "down", "let")
-OPS, SOURCES, STATEMENTS, STATES, ASSIGNMENTS, LETS, WEIGHT, DEPTH = 32, 4, 16, 8, 8, 16, 24, 32
+OPS, SOURCES, RESULTS, STATEMENTS, STATES, ASSIGNMENTS, LETS, WEIGHT, DEPTH = 32, 4, 2, 16, 8, 8, 16, 24, 32
 OPERATORS = {"+": "add", "-": "sub", "*": "mul", "/": "div", "%": "rem", "&": "and", "|": "or", "^": "xor", "~": "not",
              "!": "not", ">": "gt", "<": "gt"}
 VALUE = "`0`, `1`, a name, or a gate with its arguments"
@@ -38,7 +36,6 @@ class Reader:
 
     @property
     def shape(self) -> OpShape:
-        """The op that is read."""
         return self.shapes[-1]
 
     # tokens
@@ -388,7 +385,7 @@ def shapes_of(path: str, data: bytes) -> list[OpShape]:
     try:
         reader.read()
     except Breach as breach:
-        answer = at_token(path, data, breach.token, breach.kind, breach.rule, breach.right)
+        answer = breach.answer(path, data)
         raise Fault(f"{path} {answer.place}: {answer.kind}: {answer.rule}") from None
     return reader.shapes
 
@@ -407,5 +404,5 @@ def explain_ops(path: str, data: bytes) -> Answer | None:
     try:
         Reader(data).read()
     except Breach as breach:
-        return at_token(path, data, breach.token, breach.kind, breach.rule, breach.right)
+        return breach.answer(path, data)
     return None

@@ -1,27 +1,26 @@
 """Queries: their comparisons, the first token that breaks a rule of docs/FORMATS.md, and why a scan is refused."""
 
-from __future__ import annotations
-
 import typing
 
 from ..launcher.words import nearest
-from .answer import Answer, Breach, at_token
-from .tokens import END, NAME, NUMBER, STRANGER, Token, is_long, no_token, tokens, value_of
+from .answer import Answer, Breach
+from .operands import FORM, Operand
+from .tokens import END, NAME, NUMBER, STRANGER, Token, no_token, tokens, value_of
 
 COMPARISONS = ("eq", "gt", "ge", "lt", "le")
 JOINS = {"not": 1, "and": 2, "or": 2}
 NODES, TESTS, VALUE_MAX = 64, 32, 2**128 - 1
-FORMS = "eq, gt, ge, lt, le of (NAME, V), not(Q), and(Q, Q), or(Q, Q)"
+FORMS = "eq, gt, ge, lt, le of (NAME, V) or (NAME[LO:HI], V); not(Q), and(Q, Q), or(Q, Q)"
 SIGNS = {">=": "ge", "<=": "le", "==": "eq", "=": "eq", ">": "gt", "<": "lt"}
 
 
 class Node(typing.NamedTuple):
-    """A node of a query: its word, of a comparison its name and number, of a join its sources."""
+    """A node of a query: its word, of a comparison its operand and number, of a join its sources."""
 
     lead: Token
-    name: typing.Optional[Token] = None
-    number: typing.Optional[Token] = None
-    sources: typing.Tuple[int, ...] = ()
+    operand: Operand | None = None
+    number: Token | None = None
+    sources: tuple[int, ...] = ()
 
 
 class Reader:
@@ -86,16 +85,38 @@ class Reader:
         name = self.take()
         if name.kind != NAME:
             raise self.wrong(name, "an object's name", *(["the name comes first: ge(NAME, V)"] if name.kind == NUMBER else []))
-        if is_long(name.text):
-            raise Breach(name, "bad_name", f"a name has at most 16 bytes; this one has {len(name.text)}")
+        operand = self.operand(name)
         self.mark(",")
-        number = self.take()
-        if number.kind != NUMBER:
-            raise self.wrong(number, "a number", "a query compares an object with a number, not with an object")
+        number = self.number("a number", "a query compares an object with a number, not with an object")
         if value_of(number.text) > VALUE_MAX:
             raise Breach(number, "bad_number", "a number is below 2^128")
         self.mark(")")
-        return self.push(Node(lead, name, number))
+        return self.push(Node(lead, operand, number))
+
+    def operand(self, name: Token) -> Operand:
+        """The operand of this name: each token is checked before the next is read."""
+        Operand(name).check_name()
+        if self.tokens[self.at].text != "[":
+            return Operand(name)
+        self.mark("[")
+        ends = [self.end_of_bits(Operand(name))]
+        if self.tokens[self.at].text == ":":
+            self.mark(":")
+            ends.append(self.end_of_bits(Operand(name, tuple(ends))))
+        self.mark("]")
+        return Operand(name, tuple(ends))
+
+    def end_of_bits(self, before: Operand) -> Token:
+        """One more number in brackets."""
+        number = self.number("the number of a bit", FORM)
+        Operand(before.name, (*before.ends, number)).check_bits()
+        return number
+
+    def number(self, wanted: str, right: str) -> Token:
+        number = self.take()
+        if number.kind != NUMBER:
+            raise self.wrong(number, wanted, right)
+        return number
 
     def join(self, lead: Token) -> int:
         sources = [self.query()]
@@ -122,5 +143,5 @@ def read_query(path: str, data: bytes) -> tuple[list[Node], Answer | None]:
     try:
         reader.read()
     except Breach as breach:
-        return reader.nodes, at_token(path, data, breach.token, breach.kind, breach.rule, breach.right)
+        return reader.nodes, breach.answer(path, data)
     return reader.nodes, None

@@ -1,10 +1,8 @@
 """Why a scan is refused on a table of objects, and what would be right."""
 
-from __future__ import annotations
-
 from ..files.image import OBJECTS, Object
 from ..files.table import Table
-from .answer import Refusal, near
+from .answer import Refusal
 from .query_rules import Node
 from .script_refusals import no_rows
 from .tokens import value_of
@@ -12,19 +10,23 @@ from .tokens import value_of
 
 def wrong_comparison(nodes: list[Node], table: Table) -> Refusal | None:
     """The first comparison that the image's objects do not fit; comparisons are numbered from 0 in the order of the text."""
-    tests = [node for node in nodes if node.name]
-    names = [one.name for one in table.objects]
+    tests = [node for node in nodes if node.operand]
     for k, node in enumerate(tests):
-        found, name = table.find(node.name.text), node.name
-        if found is None:
-            return Refusal(f"no_object {k}", name, f"no object has the name {name.text}{near(name.text, names)}",
-                           (f"objects: {', '.join(names) or 'none'}",))
-        first = table.find(tests[0].name.text)
-        if found.count != first.count:
-            return Refusal(f"count {k}", name, f"{found.name} has {found.count} elements; {first.name} has {first.count}",
-                           ("all objects of a query have the same number of elements",))
-        if value_of(node.number.text) >= 2**found.width:
-            return Refusal(f"range {k}", node.number, f"{found.name} has {found.width} bits, which hold 0 to {2**found.width - 1}")
+        refusal = node.operand.absent(table, k) or node.operand.past(table, k) or misfit(node, k, tests[0], table)
+        if refusal:
+            return refusal
+    return None
+
+
+def misfit(node: Node, k: int, first: Node, table: Table) -> Refusal | None:
+    """The refusal of a comparison whose operand has a place in the table."""
+    found, name = node.operand.rows(table), node.operand.name
+    leader = table.find(first.operand.name.text)
+    if found.count != leader.count:
+        return Refusal(f"count {k}", name, f"{name.text} has {found.count} elements; {leader.name} has {leader.count}",
+                       ("all objects of a query have the same number of elements",))
+    if value_of(node.number.text) >= 2**found.width:
+        return Refusal(f"range {k}", node.number, f"{found.name} has {found.width} bits, which hold 0 to {2**found.width - 1}")
     return None
 
 
@@ -53,12 +55,12 @@ class Room:
 
 def wrong_node(nodes: list[Node], table: Table) -> Refusal | None:
     """The first node that has no room."""
-    room = Room(table, table.find(next(node for node in nodes if node.name).name.text).count)
+    room = Room(table, next(node for node in nodes if node.operand).operand.rows(table).count)
     results: list[Object] = []
     for k, node in enumerate(nodes):
         taken = [results[place] for place in node.sources]
-        if node.name:
-            taken = [room.make(node, k, table.find(node.name.text).width)]
+        if node.operand:
+            taken = [room.make(node, k, node.operand.rows(table).width)]
         result = taken[0] if taken and isinstance(taken[0], Refusal) else room.make(node, k, 1)
         if isinstance(result, Refusal):
             return result

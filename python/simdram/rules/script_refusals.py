@@ -1,7 +1,5 @@
 """Which instructions of a script are refused on a table of objects, why, and what would be right."""
 
-from __future__ import annotations
-
 import dataclasses
 import typing
 
@@ -16,7 +14,7 @@ from .script_rules import Instruction
 from .tokens import Token
 
 # of each entry and width, where its walk is stuck and why, or nothing
-Stuck = typing.Callable[[str, int], typing.Optional[str]]
+Stuck = typing.Callable[[str, int], str | None]
 COPIES = "xyz"
 
 
@@ -178,7 +176,6 @@ class Checker:
 
 
 def bits(width: int) -> str:
-    """A width in words."""
     return f"{width} bit{'s' * (width != 1)}"
 
 

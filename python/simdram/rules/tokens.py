@@ -1,7 +1,5 @@
 """The tokens of a text, with their places."""
 
-from __future__ import annotations
-
 import re
 import typing
 
@@ -19,10 +17,10 @@ class Token(typing.NamedTuple):
     at: int
 
 
-def tokens(data: bytes) -> list[Token]:
-    """The tokens of a text up to the first byte that starts none, and the end."""
+def tokens(data: bytes, item: re.Pattern = ITEM) -> list[Token]:
+    """The tokens of a text up to the first byte that starts none, and the end; `item` says what tokens there are."""
     found = []
-    for match in ITEM.finditer(data):
+    for match in item.finditer(data):
         kind = match.lastgroup
         if kind != "gap":
             found.append(Token(kind, match.group().decode("ascii", "backslashreplace"), match.start()))

@@ -1,7 +1,5 @@
 """What the verdicts of `verify` mean, entry by entry, and what to do."""
 
-from __future__ import annotations
-
 import shlex
 
 from ..assembler.reading import head_line

@@ -3,12 +3,10 @@
 `w` is a word, `b` a bit, `x` either, the same in every place.
 """
 
-from __future__ import annotations
-
 import operator
 import typing
 
-Numbers = typing.Union[int, typing.Tuple[int, int]]
+Numbers = int | tuple[int, int]
 
 
 class WordOp(typing.NamedTuple):

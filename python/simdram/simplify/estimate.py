@@ -1,7 +1,5 @@
 """Guesses at what statements cost, of a block from its gates and names: they tell which statements are worth measuring."""
 
-from __future__ import annotations
-
 import collections
 import typing
 

@@ -1,7 +1,5 @@
 """What cells and rows hold while a part of a microprogram is executed, by symbols."""
 
-from __future__ import annotations
-
 from ..assembler.forms import Form
 from ..files.decode import CELLS, RAISED
 from ..files.program import AAP, B_ADDRESS, C_ADDRESS, Instruction, Row
@@ -114,7 +112,7 @@ class Board:
             self.settle(one.rows[1], value)
         return True
 
-    def whole(self, code) -> Board:
+    def whole(self, code) -> "Board":
         """The board after all instructions."""
         for one in code:
             self.do(one)

@@ -4,8 +4,6 @@ A pattern is the value under 256 drawn settings of the rows that are read, so th
 function of these rows, but for a chance that nobody meets.
 """
 
-from __future__ import annotations
-
 import dataclasses
 import random
 
@@ -47,7 +45,6 @@ def now_value(name: str, number: int) -> Value:
 
 
 def complemented(value: Value) -> Value:
-    """The complement of a value."""
     if value.pattern is None:
         return value
     if value in (ZERO, ONE):

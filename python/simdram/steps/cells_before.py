@@ -1,7 +1,5 @@
 """What cells hold where a part of a microprogram begins: which are 0 or 1, and which hold one value, or its complement."""
 
-from __future__ import annotations
-
 import itertools
 import typing
 
@@ -15,7 +13,7 @@ from .row_names import RowNames
 
 CONSTANT = "0"
 # of each cell whose value it has, the constant's or that of the first cell with it, and whether it has its complement
-Known = typing.Tuple[typing.Tuple[str, bool], ...]
+Known = tuple[tuple[str, bool], ...]
 START: Known = tuple((cell, False) for cell in CELLS)
 
 

@@ -1,7 +1,5 @@
 """The parts of a microprogram: its code cut where it can jump or be jumped to, and of which statements each part is."""
 
-from __future__ import annotations
-
 import dataclasses
 
 from ..assembler.loops_and_ways import Outline, outline

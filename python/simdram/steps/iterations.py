@@ -1,7 +1,5 @@
 """The bits of cells and rows in each iteration of a part, where numbers are given for an operation's operands."""
 
-from __future__ import annotations
-
 import bisect
 import typing
 

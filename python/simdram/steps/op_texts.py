@@ -1,7 +1,5 @@
 """The operation text that is named beside a program's entry: its names, and its statements where the entry is of it."""
 
-from __future__ import annotations
-
 import os
 import tempfile
 import typing

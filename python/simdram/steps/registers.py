@@ -1,7 +1,5 @@
 """What the registers of a microprogram hold: the numbers of its loops, which are the positions of its rows."""
 
-from __future__ import annotations
-
 import typing
 
 from ..assembler.forms import Form

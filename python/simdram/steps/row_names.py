@@ -1,7 +1,5 @@
 """Names of a microprogram's rows: the designer's where the operation text is given, and else a, b, y, t0, w0."""
 
-from __future__ import annotations
-
 from ..files.decode import CELLS
 from ..files.program import BIT, INDEXED, RESULT, SOURCE, WORD, Row
 from ..rules.op_shapes import OpShape, Statement
@@ -29,7 +27,6 @@ class RowNames:
             self.bits = {name for name, kind in kinds.items() if kind == "bit"}
 
     def put(self, space: int, names) -> None:
-        """Names the first rows of a space."""
         for which, name in enumerate(names):
             self.names[space, which] = name
 

@@ -6,4 +6,4 @@ use Rattle.block_lower.proofs.choice.least_graph.Goals as goal
 pub chosen-requires-clause-others : goal.chosen-requires-clause-others
 chosen-requires-clause-others c =
     all-right c.args.reads.now c.args.writes.now c.args.graph.mig c.args.graph.outs.items
-    (map sketch_of c.deref-2.result.now) c.in_ok-others.others.items c.in_ok-others.ensures
+    (map sketch_of c.deref.result.now) c.in_ok-others.others.items c.in_ok-others.ensures

@@ -11,7 +11,7 @@ returns-in_err-token-clause-moves c = exits (model.Bound ∷ []) _ _ _ (λ x. []
 pub returns-in-Ok-clause-moves : goal.returns-in-Ok-clause-moves
 returns-in-Ok-clause-moves c = token_goes (word_view c.in_ok-token.token.word)
     (seen c.args.parser.now) (seen c.next.new.parser) c.in_ok-token.token.at
-    model.Bound c.in_ok-token.ensures.takes (c.in-Ok.ensures.step _)
+    model.Bound [] c.in_ok-token.ensures.takes (c.in-Ok.ensures.step _)
 
 pub returns-in-Err-clause-moves : goal.returns-in-Err-clause-moves
 returns-in-Err-clause-moves c = breaks (seen c.args.parser.now) (seen c.next.new.parser)

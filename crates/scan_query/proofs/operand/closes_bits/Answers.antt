@@ -1,0 +1,20 @@
+use Rattle.std.proofs.Common.{[], ◌∷◌, cond}
+use Rattle.scan_model.specs.Texts as model
+use Rattle.scan_query.specs.Reading.{seen, word_view}
+use Rattle.scan_query.proofs.Taking.{breaks, exits, token_goes}
+use Rattle.scan_query.proofs.operand.closes_bits.Goals as goal
+
+pub returns-in_err-token-clause-moves : goal.returns-in_err-token-clause-moves
+returns-in_err-token-clause-moves c low = exits (model.AtLow low ∷ []) _ _ _ (λ b. cond b model.AtBits (model.High low) ∷ []) _
+    c.from_residual.ensures.1 (c.in_err-token.ensures.takes (model.AtLow low))
+
+pub returns-in-Ok-clause-moves : goal.returns-in-Ok-clause-moves
+returns-in-Ok-clause-moves c low = token_goes (word_view c.in_ok-token.token.word)
+    (seen c.args.parser.now) (seen c.next.new.parser) c.in_ok-token.token.at
+    (model.AtLow low) (cond c.in-Ok.closes model.AtBits (model.High low) ∷ []) c.in_ok-token.ensures.takes
+    (c.in-Ok.ensures.step low _)
+
+pub returns-in-Err-clause-moves : goal.returns-in-Err-clause-moves
+returns-in-Err-clause-moves c low = breaks (seen c.args.parser.now) (seen c.next.new.parser)
+    (word_view c.in_ok-token.token.word) c.in_ok-token.token.at (model.AtLow low)
+    c.in-Err.kind c.in_ok-token.ensures.takes.pieces (c.in-Err.ensures.breaks low _)
