@@ -7,11 +7,11 @@ mod copied;
 mod laws;
 mod offer;
 mod program;
-mod report;
 mod search;
+mod text;
 
 pub use laws::{optimised_are_as_good, optimised_are_right, optimised_implement};
 pub use offer::{Offered, Outcome, with_line};
 pub use program::{Optimised, with_lines};
-pub use report::report;
 pub use search::{Effort, searched_lines};
+pub use text::report;

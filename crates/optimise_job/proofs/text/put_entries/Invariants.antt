@@ -3,7 +3,7 @@ use Rattle.uprog_code.specs.declared.code.EntryCode.{EntryCode}
 use Rattle.uprog_code.specs.Shape.{microprogram_of}
 use Rattle.optimise_job.specs.declared.offer.Outcome.{Outcome}
 use Rattle.optimise_job.specs.Report.{entry_line}
-use Rattle.optimise_job.proofs.report.put_entries.Given as goal
+use Rattle.optimise_job.proofs.text.put_entries.Given as goal
 
 -- the lines that were written
 abbrev pub invariant-loop-entry : goal.invariant-loop-entry

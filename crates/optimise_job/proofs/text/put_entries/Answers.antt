@@ -7,7 +7,7 @@ use Rattle.uprog_code.specs.Shape.{microprogram_of}
 use Rattle.optimise_job.specs.declared.offer.Outcome.{Outcome}
 use Rattle.optimise_job.specs.Report.{entry_line}
 use Rattle.optimise_job.proofs.Written.{one_more, zip_read}
-use Rattle.optimise_job.proofs.report.put_entries.Goals as goal
+use Rattle.optimise_job.proofs.text.put_entries.Goals as goal
 
 pub loop-entry-preserved : goal.loop-entry-preserved
 loop-entry-preserved c =
