@@ -27,7 +27,7 @@ NUMBERS = {
     "words": Number(1, 1024, "the number of words in a row", "of 64 bits, 1 to 1024: a row has a column for each of their bits"),
     "seed": Number(0, 2**64 - 1, "the seed", "of the random numbers, 0 to 2^64 - 1"),
     "walk": Number(0, 2**64 - 1, "the seed", "of the search, 0 to 2^64 - 1; 1 if it is left out"),
-    "work": Number(0, 2**64 - 1, "the number of changes", "that the search tries for each command, 0 to 2^64 - 1; 100000 if it is left out"),
+    "work": Number(0, 2**64 - 1, "the number of changes", "that the search tries for each command, 0 to 2^64 - 1; 50000 if it is left out"),
 }
 WORDS_MAX = 2**23
 PLACES = ("first", "second", "third", "fourth", "fifth", "sixth")
