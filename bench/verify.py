@@ -10,8 +10,9 @@ prints a table: milliseconds, the least of K calls, and peak memory. A call is s
 second verifies the 22 programs of examples/fewest at every width from 1 to 128, each by a call of its own, and prints up to
 which width each is right. The status is 1 where a verdict is another than `right`; those of products, quotients and counts of
 ones may be unknown, or not come in time, from some width on. The third verifies programs that are made to be slow, or are plainly
-wrong: one whose diagrams ask |f| times |g| questions without a node for an answer, and programs for products and quotients that
-copy a row. The status is 1 where one is not right, unknown or wrong as it should be, or not in time.
+wrong: one whose diagrams ask |f| times |g| questions without a node for an answer, at n = 2K for K = 9 to 17, 24, 32 and 64; the
+same with a bit that is wrong where another cell is 1 at the start; programs for products and quotients that copy a row; and 32 endless
+loops. The status is 1 where one is not right, unknown, wrong or stuck as it should be, or not in time.
 """
 
 import os
@@ -29,7 +30,7 @@ sys.path.append(str(TOP / "python"))
 import program  # noqa: E402
 from commands import op  # noqa: E402
 from simdram.assembler import assemble  # noqa: E402
-from simdram.rules.verdicts import RIGHT, UNKNOWN, WRONG, verdicts_of  # noqa: E402
+from simdram.rules.verdicts import BAD_WALK, RIGHT, UNKNOWN, WRONG, verdicts_of  # noqa: E402
 from word_ops import word_ops  # noqa: E402
 
 FEWEST = TOP / "examples" / "fewest"
@@ -87,7 +88,32 @@ pairs:
     AAP DCC0 y[i]
   }
 """
-SLOW_WIDTHS = (18, 20, 22, 24, 26, 34, 48, 64, 96, 128)
+SLOW_WIDTHS = (*range(18, 36, 2), 48, 64, 128)
+# the same, where a bit that no command writes is or'ed to the lowest position
+STALE = SLOW.replace("w: word", "w: word, s: bit") + """
+  SETI r0 0
+  AAP y[r0] T0
+  AAP s T1
+  AAP C1 T2
+  AAP {T0, T1, T2} y[r0]
+"""
+STALE_WIDTHS = (34, 128)
+# loops that never end: of two instructions, and of two million
+LOOPS = (("loop:short", "  SETI r0 1\nhere:\n  BNEZ r0 here\n"),
+         ("loop:long", """
+out:
+  SETI r0 1000
+one:
+  SETI r1 1000
+two:
+  SUBI r1 1
+  BNEZ r1 two
+  SUBI r0 1
+  BNEZ r0 one
+  SETI r2 1
+  BNEZ r2 out
+"""))
+LOOP_COUNT = 32
 # a name, a body for each bit, and the operations of which it is no program
 COPIES = (("zeros", "AAP C0 y[i]", ("mul", "div")), ("copy", "AAP a[i] y[i]", ("mul", "div")))
 COPY_WIDTHS = (16, 32, 128)
@@ -178,11 +204,18 @@ def hostile(calls, repeat):
     calls.store("ops", b"op slow(a: word) -> y: word { y = not(a); }\n")
     calls.store("prog", assemble(SLOW.encode()).file())
     wrong = sum(hostile_row(calls, "slow", n, 1, (RIGHT, UNKNOWN)) for n in SLOW_WIDTHS)
+    calls.store("prog", assemble(STALE.encode()).file())
+    wrong += sum(hostile_row(calls, "stale", n, 1, (WRONG,)) for n in STALE_WIDTHS)
     for name, body, operations in COPIES:
         for operation in operations:
             calls.store("ops", f"op f(a: word, b: word) -> y: word {{ y = {operation}(a, b); }}\n".encode())
             calls.store("prog", assemble(f"program f(a: word, b: word) -> y: word\n  for i in 0..n {{ {body} }}\n".encode()).file())
             wrong += sum(hostile_row(calls, f"{operation}:{name}", n, repeat, (WRONG,)) for n in COPY_WIDTHS)
+    heads = [f"slow{k}(a: word) -> y: word" for k in range(LOOP_COUNT)]
+    calls.store("ops", "".join(f"op {head} {{ y = not(a); }}\n" for head in heads).encode())
+    for name, body in LOOPS:
+        calls.store("prog", assemble("".join(f"program {head}\n{body}" for head in heads).encode()).file())
+        wrong += hostile_row(calls, name, 8, 1, (BAD_WALK,))
     return wrong
 
 

@@ -102,6 +102,8 @@ class Refusals(unittest.TestCase):
             simdram.scan(self.chip, "a >= 10", a=self.a)
         said = self.refused("no_object", 0, lambda: simdram.scan(self.chip, "ge(b, 10)", a=self.a))
         self.assertIn("no object has the name b\n  objects: a", said)
+        said = self.refused("slice", 0, lambda: simdram.scan(self.chip, "ge(a[4:9], 1)", a=self.a))
+        self.assertIn("the highest bit of a is 7", said)
         said = self.refused("range", 0, lambda: simdram.scan(self.chip, "ge(a, 256)", a=self.a))
         self.assertIn("a has 8 bits, which hold 0 to 255", said)
         self.assertEqual(simdram.scan(self.chip, "ge(query, 2)", query=self.a).count, 2)

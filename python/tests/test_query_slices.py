@@ -47,7 +47,8 @@ class Draw:
         if name in self.objects and self.draws.random() < .6:
             value = self.draws.choice(self.objects[name][1])
             number = value if low is None else value // 2**low % 2**width
-        return self.draws.choice(("eq", "gt", "ge", "lt", "le")), (name, low, high), number + (2**width if self.draws.random() < .01 else 0)
+        too_large = width < 128 and self.draws.random() < .01
+        return self.draws.choice(("eq", "gt", "ge", "lt", "le")), (name, low, high), number + too_large * 2**width
 
     def query(self, depth=4):
         draws = self.draws
@@ -75,7 +76,7 @@ class RandomQueries(Files):
 
     def image(self, draw, banks, words):
         """An image with the objects."""
-        image = Image(banks, 384, words)
+        image = Image(banks, 700, words)
         for name, (width, values) in draw.objects.items():
             image.add(name, width, len(values))
             image.put(name, values)

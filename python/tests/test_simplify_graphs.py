@@ -9,7 +9,7 @@ from random_ops import Maker
 
 from simdram.rules.op_tree import Block, Op, WordStatement, gate, read
 from simdram.rules.ops_rules import read_ops
-from simdram.simplify import truth_tables
+from simdram.simplify import gates
 from simdram.simplify.blocks import written
 from simdram.simplify.cut import cut
 from simdram.simplify.gates import BIT, Graph
@@ -128,9 +128,9 @@ class Gates(unittest.TestCase):
         self.assertEqual(len(set(known.values())), len(known), "two literals of one table")
 
     def test_tables_over_what_matters(self):
-        self.assertEqual(truth_tables.smallest(0b1010, (5, 7)), (0b10, (5,)))
-        self.assertEqual(truth_tables.smallest(0b1111, (5, 7)), (0b1, ()))
-        self.assertEqual(truth_tables.spread(0b10, (5,), (3, 5)), 0b1100)
+        self.assertEqual(gates.smallest(0b1010, (5, 7)), (0b10, (5,)))
+        self.assertEqual(gates.smallest(0b1111, (5, 7)), (0b1, ()))
+        self.assertEqual(gates.spread(0b10, (5,), (3, 5)), 0b1100)
 
 
 class Plans(unittest.TestCase):

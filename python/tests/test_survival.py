@@ -16,7 +16,7 @@ from test_tools import Folder
 
 from simdram.launcher import parallel
 from simdram.launcher.faults import Fault
-from simdram.survival.flip_draws import Cells, drawn, rate_of, text_of
+from simdram.survival.flips_tool import Cells, drawn, rate_of, text_of
 from simdram.survival.survival_tool import interval
 
 GUARD = TOP / "examples" / "guard"

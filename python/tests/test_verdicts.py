@@ -184,6 +184,14 @@ class Calls(unittest.TestCase):
         ended = called("verify", "f.ops", "scattered.prog", "1", cwd=self.folder)
         self.assertEqual(ended.stdout.splitlines()[1], "verified 1 of 1 at 1")
 
+    def test_wrong_where_a_diagram_is_given_up(self):
+        """A result that such a function may change is found wrong from ones in a few of the cells."""
+        text = SCATTERED.replace("AAP s T2", "AAP C1 T2")
+        (self.folder / "scattered.prog").write_bytes(assemble(text.encode()).file())
+        ended = called("verify", "f.ops", "scattered.prog", "8", cwd=self.folder)
+        self.assertEqual(ended.returncode, 19)
+        self.assertRegex(ended.stdout, r"^f wrong x=0 s=0 gives 0 1 not 0 0 from w(\d)\[(\d)\] w(\d)\[\2\]\nverified 0 of 1 at 8\n$")
+
 
 if __name__ == "__main__":
     unittest.main()

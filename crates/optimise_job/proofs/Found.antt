@@ -1,15 +1,13 @@
 -- The compiler's entry of a name, and the op that it does.
-use Rattle.std.proofs.Common.{◌≡◌, ℕ, zero, suc, ◌<◌, ◌≤◌, Bool, true, false, cond, List, [], ◌∷◌}
+use Rattle.std.proofs.Common.{◌≡◌, ℕ, zero, suc, ◌<◌, Bool, true, false, cond, List, [], ◌∷◌}
 use Rattle.std.proofs.Common.{length, map, refl, sym, ap, ◌∙◌, subst, arith, Option, Some, None}
 use Rattle.std.specs.Prelude.{bytes_eq, find, nat_lt, position, slice_get, slice_index_or}
 use Rattle.std.specs.List.{AllByRecursion, position_or_len}
 use Rattle.std.specs.Option.{option_map}
 use Rattle.std.proofs.lemmas.List.Folds.{find_at}
 use Rattle.std.proofs.lemmas.Option.{slice_get-get_or, slice_get_past}
-use Rattle.bit_rows.specs.declared.TheConstants.{WIDTH_MAX}
 use Rattle.uprog_code.specs.declared.code.EntryCode.{EntryCode}
-use Rattle.uprog_code.specs.Shape.{Microprogram, Shape, microprogram_of, shape_of}
-use Rattle.uprog_code.specs.Machine.{HasEnded, trace}
+use Rattle.uprog_code.specs.Shape.{Microprogram, microprogram_of, shape_of}
 use Rattle.uprog_code.specs.Legal.{IsLegalCode}
 use Rattle.uprog_code.specs.Programs.{IsEntry, IsProgram}
 use Rattle.uprog_code.specs.Texts.{EntryDoes, ImplementsAll, TextOp}
@@ -18,7 +16,7 @@ use Rattle.optimise_job.specs.Outcomes.{op_named}
 find_map : {X Y : Type 0} (f : X → Y) (q : Y → Bool) (xs : List X)
     → find q (map f xs) ≡ option_map f (find (λ x. q (f x)) xs)
 find_map f q [] = refl
-find_map f q (x ∷ xs) =
+find_map {X} f q (x ∷ xs) =
     ap (cond (q (f x)) (Some (f x))) (find_map f q xs)
     ∙ sym (of_cond (q (f x)) (Some x) (find (λ y. q (f y)) xs))
   where
@@ -126,15 +124,11 @@ op_there (y ∷ items) (o ∷ ops) zero x does lt e =
 op_there (y ∷ items) (o ∷ ops) (suc k) x does lt e =
     op_there items ops k x does.1 (omega arith) e
 
--- an entry of a program that does ops is legal, and its walks end
+-- an entry of a program that does ops is legal, and does one of them
 pub entry_there : (items : List EntryCode) (ops : List TextOp) (k : ℕ) (x : EntryCode)
     → ImplementsAll (map microprogram_of items) ops → IsProgram (map microprogram_of items)
     → k < length items → x ≡ slice_index_or items k x
-    → IsLegalCode (shape_of x.head) x.code.items × ((n : ℕ) → 0 < n → n ≤ WIDTH_MAX
-    → HasEnded (trace (shape_of x.head) x.code.items n))
+    → IsLegalCode (shape_of x.head) x.code.items
+    × ((o : TextOp) × EntryDoes (microprogram_of x) o)
 entry_there items ops k x does legal lt e =
-    let o = op_there items ops k x does lt e in (
-      (legal_there items k x legal.entries lt e).code,
-      λ n some narrow. subst (λ (s : Shape). HasEnded (trace s x.code.items n)) (sym o.1.shape)
-          (o.1.code.ends n some narrow),
-    )
+    ((legal_there items k x legal.entries lt e).code, op_there items ops k x does lt e)

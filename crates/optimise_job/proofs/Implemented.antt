@@ -1,8 +1,7 @@
 -- Where a program implements ops, one that is as good implements them.
-use Rattle.std.proofs.Common.{◌≡◌, ℕ, suc, ◌+◌, ◌<◌, ◌≤◌, List, [], ◌∷◌, length, refl, sym, ap, ◌∙◌}
-use Rattle.std.proofs.Common.{subst, inl, inr, ⊎_elim, arith, Some, Ok}
-use Rattle.std.specs.Prelude.{◌≢◌, ◌⊎◌, count_by, cond}
-use Rattle.std.specs.List.{AllPairs}
+use Rattle.std.proofs.Common.{◌≡◌, ℕ, ◌+◌, ◌<◌, ◌≤◌, List, [], ◌∷◌, length, refl, sym, ap, ◌∙◌}
+use Rattle.std.proofs.Common.{subst, ⊎_elim, arith, Some, Ok}
+use Rattle.std.specs.Prelude.{◌≢◌, count_by, cond}
 use Rattle.std.proofs.lemmas.Bool.{cases_eq}
 use Rattle.std.proofs.lemmas.List.Sums.{sum_by-cons}
 use Rattle.bit_rows.specs.declared.TheConstants.{WIDTH_MAX}

@@ -1,5 +1,5 @@
 -- What a program with straight lines at one width keeps of the program that it was made of.
-use Rattle.std.specs.Prelude.{◌≡◌, ◌≢◌, ℕ, ◌+◌, ◌<◌, ◌≤◌, List, [], ◌∷◌, Ok, Some}
+use Rattle.std.specs.Prelude.{◌≡◌, ◌≢◌, ℕ, ◌<◌, ◌≤◌, List, [], ◌∷◌, Ok, Some}
 use Rattle.bit_rows.specs.declared.TheConstants.{WIDTH_MAX}
 use Rattle.uprog_code.specs.declared.walker.Counts.{Counts}
 use Rattle.uprog_code.specs.Shape.{Microprogram}
@@ -32,7 +32,7 @@ AreAsGood n ops (e ∷ es) (r ∷ rs) = IsAsGood n ops e r × AreAsGood n ops es
 -- unless it is not known that the entry did its op at the width, what came of it does
 abbrev pub IsRightIfKnown : ℕ → List TextOp → Microprogram → Outcome → Type 0
 IsRightIfKnown n ops r (outcome.Unproved verdict) = Unit {0}
-IsRightIfKnown n ops r outcome = (o : TextOp) → op_named ops r.name ≡ Some o → DoesAt n r o
+IsRightIfKnown n ops r x = (o : TextOp) → op_named ops r.name ≡ Some o → DoesAt n r o
 
 -- each of them, in order
 abbrev pub AreRightIfKnown : ℕ → List TextOp → List Microprogram → List Outcome → Type 0

@@ -2,6 +2,9 @@
 use Rattle.std.specs.Prelude.{ℕ, Bool, true, false, List, [], ◌∷◌, ◌++◌, codes, count_by, decimal}
 use Rattle.std.specs.Prelude.{flat_map, length, zip}
 use Rattle.uprog_code.specs.Shape.{Microprogram}
+use Rattle.verify_core.specs.declared.verdict.Verdict.{Verdict}
+use Rattle.verify_core.specs.declared.verdict.Verdict.TheVariants.{Right, Wrong, Stuck, OtherKinds}
+use Rattle.verify_core.specs.declared.verdict.Verdict.TheVariants.{Unknown}
 use Rattle.optimise_job.specs.declared.offer.Outcome.{Outcome}
 use Rattle.optimise_job.specs.declared.offer.Outcome.TheVariants as outcome
 use Rattle.optimise_job.specs.Outcomes.{commands}
@@ -17,10 +20,18 @@ is_taken (outcome.LongWalk m) = false
 is_taken (outcome.Said verdict) = false
 is_taken (outcome.Taken before after) = true
 
+-- what verify finds of an entry that it does not find right
+abbrev pub unproved_text : Verdict → List ℕ
+unproved_text (Right counts) = codes " unknown\n"
+unproved_text (Wrong case) = codes " wrong\n"
+unproved_text (Stuck walk) = codes " bad_walk\n"
+unproved_text OtherKinds = codes " other_kinds\n"
+unproved_text (Unknown limit) = codes " unknown\n"
+
 -- how many commands before and after, that it is not known to do its op, or that it is as it was
 abbrev pub outcome_text : Outcome → List ℕ
 outcome_text outcome.NoOp = codes " as it was\n"
-outcome_text (outcome.Unproved verdict) = codes " unknown\n"
+outcome_text (outcome.Unproved verdict) = unproved_text verdict
 outcome_text outcome.NotFewer = codes " as it was\n"
 outcome_text (outcome.Command k) = codes " as it was\n"
 outcome_text outcome.TooLong = codes " as it was\n"

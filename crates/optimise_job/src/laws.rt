@@ -14,17 +14,17 @@ use bit_rows::WIDTH_MAX;
 /// Shows what the outcomes say of the program: each entry is the old one at every other width, and
 /// at this one does its op if the old one does, in no more commands.
 pub fn optimised_are_as_good()
-    ensures { (n : ℕ) (ops : List TextOp) (es : List Microprogram) (lines : List (List Issued))
-        (rs : List Microprogram) (outcomes : List Outcome)
-        → AreOutcomes n ops es lines rs outcomes → AreAsGood n ops es rs }
+    ensures { (n room : ℕ) (ops : List TextOp) (es : List Microprogram)
+        (lines : List (List Issued)) (rs : List Microprogram) (outcomes : List Outcome)
+        → AreOutcomes n room ops es lines rs outcomes → AreAsGood n ops es rs }
 {}
 
 /// Shows that at this width each entry does the op of its name, unless it is not known that the old
 /// one did.
 pub fn optimised_are_right()
-    ensures { (n : ℕ) (ops : List TextOp) (es : List Microprogram) (lines : List (List Issued))
-        (rs : List Microprogram) (outcomes : List Outcome) → AreOutcomes n ops es lines rs outcomes
-        → AreRightIfKnown n ops rs outcomes }
+    ensures { (n room : ℕ) (ops : List TextOp) (es : List Microprogram)
+        (lines : List (List Issued)) (rs : List Microprogram) (outcomes : List Outcome)
+        → AreOutcomes n room ops es lines rs outcomes → AreRightIfKnown n ops rs outcomes }
 {}
 
 /// Shows that where the program implemented the ops at all widths, it still does.

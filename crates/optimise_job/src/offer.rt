@@ -1,8 +1,8 @@
 //! What becomes of an entry where a straight line is offered for it.
 
 ghost use Rattle.std.specs.Prelude.{◌≡◌, ◌≢◌, ◌+◌, ◌<◌, ◌≤◌, ◌↔◌, ℕ, Err, IfNone, IfOk};
-ghost use Rattle.std.specs.Prelude.{IfSome, IsTrue, Ok};
-ghost use Rattle.uprog_code.specs.Shape.{microprogram_of, shape_of};
+ghost use Rattle.std.specs.Prelude.{IfSome, IsTrue, Ok, length};
+ghost use Rattle.uprog_code.specs.Shape.{Microprogram, microprogram_of, shape_of};
 ghost use Rattle.uprog_code.specs.Machine.{HasEnded, trace};
 ghost use Rattle.uprog_code.specs.Count.{walked};
 ghost use Rattle.uprog_code.specs.Legal.{IsLegalCode};
@@ -30,7 +30,7 @@ pub enum Outcome {
     NotFewer,
     /// The entry's code cannot issue the command at this place of the line.
     Command(usize),
-    /// With the line it would have too many instructions.
+    /// With the line the entry, or the program, would have too many instructions.
     TooLong,
     /// With the line, its walk at this other width would pass the greatest number of instructions.
     LongWalk(u8),
@@ -90,6 +90,24 @@ fn counts_of<F: Fetch>(entry: &F, n: u8) -> Counts
     }
 }
 
+/// Whether a width is another than n, and the entry's walk ends at it, and that of the entry with
+/// the line does not.
+fn is_long<F: Fetch>(entry: &F, with_line: &EntryCode, n: u8, m: u8) -> bool
+    requires legal { IsLegalCode (F.shape entry.now) (F.code entry.now) }
+    requires line_legal { IsLegalCode (shape_of with_line.now.head) with_line.now.code.items }
+    requires some { 0 < m }
+    requires narrow { m ≤ WIDTH_MAX }
+    ensures { IsTrue result ↔ (m ≢ n)
+        × HasEnded (trace (F.shape entry.now) (F.code entry.now) m)
+        × (HasEnded (trace (shape_of with_line.now.head) with_line.now.code.items m) → ⊥) }
+{
+    if m == n || ends(with_line, m) {
+        false
+    } else {
+        ends(entry, m)
+    }
+}
+
 /// The first width but n where the entry's walk ends, and that of the entry with the line does not.
 fn long_walk<F: Fetch>(entry: &F, with_line: &EntryCode, n: u8) -> Option<u8>
     requires legal { IsLegalCode (F.shape entry.now) (F.code entry.now) }
@@ -102,9 +120,8 @@ fn long_walk<F: Fetch>(entry: &F, with_line: &EntryCode, n: u8) -> Option<u8>
         × (HasEnded (trace (shape_of with_line.now.head) with_line.now.code.items m) → ⊥)) }
 {
     for k in 0..WIDTH_MAX {
-        let m = k + 1;
-        if m != n && !ends(with_line, m) && ends(entry, m) {
-            return Some(m);
+        if is_long(entry, with_line, n, k + 1) {
+            return Some(k + 1);
         }
     }
     None
@@ -147,6 +164,7 @@ fn shortened_entry<F: Fetch>(
     before: Counts,
     n: u8,
     line: &[Issued],
+    room: usize,
     alloc: Global,
 ) -> Result<Shortened, Refusal>
     requires legal { IsLegalCode (F.shape entry.now) (F.code entry.now) }
@@ -159,24 +177,29 @@ fn shortened_entry<F: Fetch>(
       shape = F.shape entry.now;
       code = F.code entry.now;
     }) (microprogram_of x.entry) x.before x.after) }
+    ensures fits { IfOk result (λ x. length x.entry.code.items
+        ≤ length (F.code entry.now) + room) }
     ensures legal { IfOk result (λ x. IsLegalCode (shape_of x.entry.head) x.entry.code.items) }
     ensures left { (outcome : Outcome) (o : TextOp) → result ≡ Err (Refusal.Left outcome)
-        → let e = record {
+        → let e : Microprogram = record {
           name = F.name entry.now;
           shape = F.shape entry.now;
           code = F.code entry.now;
-        } in DoesAt n e o → IsOfferOf n o e line.now e outcome }
+        } in DoesAt n e o → IsOfferOf n room o e line.now e outcome }
 {
-    let entry = match for_width(entry, n, line, alloc) {
-        Ok(entry) => entry,
+    let made = match for_width(entry, n, line, alloc) {
+        Ok(made) => made,
         Err(NotMade::NoMemory) => return Err(Refusal::NoMemory),
         Err(NotMade::Command(k)) => return Err(Refusal::Left(Outcome::Command(k))),
         Err(NotMade::TooLong) => return Err(Refusal::Left(Outcome::TooLong)),
     };
-    let after = counts_of(&entry, n);
+    if made.code.len() - usize::from(entry.len()) > room {
+        return Err(Refusal::Left(Outcome::TooLong));
+    }
+    let after = counts_of(&made, n);
     if commands(after) < commands(before) {
         Ok(Shortened {
-            entry,
+            entry: made,
             before,
             after,
         })
@@ -191,6 +214,7 @@ fn taken<F: Fetch>(
     made: &EntryCode,
     n: u8,
     line: &[Issued],
+    room: usize,
     alloc: Global,
 ) -> Result<Offered, Refusal>
     requires legal { IsLegalCode (F.shape entry.now) (F.code entry.now) }
@@ -199,25 +223,25 @@ fn taken<F: Fetch>(
     requires narrow { n ≤ WIDTH_MAX }
     requires does { (o : TextOp) × EntryDoes (microprogram_of made.now) o }
     ensures taken { IfOk result (λ x. (o : TextOp) → EntryDoes (microprogram_of made.now) o
-        → IsOfferOf n o (record {
+        → IsOfferOf n room o (record {
           name = F.name entry.now;
           shape = F.shape entry.now;
           code = F.code entry.now;
         }) line.now (microprogram_of x.entry) x.outcome) }
     ensures legal { IfOk result (λ x. IsLegalCode (shape_of x.entry.head) x.entry.code.items) }
     ensures left { (outcome : Outcome) (o : TextOp) → result ≡ Err (Refusal.Left outcome)
-        → EntryDoes (microprogram_of made.now) o → let e = record {
+        → EntryDoes (microprogram_of made.now) o → let e : Microprogram = record {
           name = F.name entry.now;
           shape = F.shape entry.now;
           code = F.code entry.now;
-        } in IsOfferOf n o e line.now e outcome }
+        } in IsOfferOf n room o e line.now e outcome }
 {
     let before = match said(entry, made, n, alloc) {
         Ok(Verdict::Right(_)) => counts_of(entry, n),
         Ok(verdict) => return Err(Refusal::Left(Outcome::Unproved(verdict))),
         Err(NoMemory) => return Err(Refusal::NoMemory),
     };
-    let found = shortened_entry(entry, before, n, line, alloc)?;
+    let found = shortened_entry(entry, before, n, line, room, alloc)?;
     if let Some(m) = long_walk(entry, &found.entry, n) {
         return Err(Refusal::Left(Outcome::LongWalk(m)));
     }
@@ -233,12 +257,14 @@ fn taken<F: Fetch>(
 
 /// What becomes of the entry of an op where a line is offered for it, by an entry that does the op.
 ///
-/// The line is taken only where an entry with it is right and issues fewer commands at the width.
+/// The line is taken only where the entry is right, and one with the line is right, issues fewer
+/// commands at the width and has at most so many instructions more.
 pub fn with_line<F: Fetch>(
     entry: &F,
     made: &EntryCode,
     n: u8,
     line: &[Issued],
+    room: usize,
     alloc: Global,
 ) -> Result<Offered, NoMemory>
     requires legal { IsLegalCode (F.shape entry.now) (F.code entry.now) }
@@ -247,14 +273,14 @@ pub fn with_line<F: Fetch>(
     requires narrow { n ≤ WIDTH_MAX }
     requires does { (o : TextOp) × EntryDoes (microprogram_of made.now) o }
     ensures offer { IfOk result (λ x. (o : TextOp) → EntryDoes (microprogram_of made.now) o
-        → IsOfferOf n o (record {
+        → IsOfferOf n room o (record {
           name = F.name entry.now;
           shape = F.shape entry.now;
           code = F.code entry.now;
         }) line.now (microprogram_of x.entry) x.outcome) }
     ensures legal { IfOk result (λ x. IsLegalCode (shape_of x.entry.head) x.entry.code.items) }
 {
-    match taken(entry, made, n, line, alloc) {
+    match taken(entry, made, n, line, room, alloc) {
         Ok(offered) => Ok(offered),
         Err(Refusal::NoMemory) => Err(NoMemory),
         Err(Refusal::Left(outcome)) => Ok(Offered {

@@ -25,10 +25,13 @@ pub struct Optimised {
 
 /// The place of the entry of this name.
 pub(crate) fn place_of(entries: &[EntryCode], name: &Name) -> Option<usize>
-    ensures value { result ≡ position (λ (e : EntryCode). bytes_eq e.head.name name.now) entries.now }
+    ensures value { result
+        ≡ position (λ (e : EntryCode). bytes_eq e.head.name name.now) entries.now }
     ensures within { IfSome result (λ k. k < length entries.now) }
 {
-    entries.iter().position(|e| e.head.name.bytes() == name.bytes())
+    entries
+        .iter()
+        .position(|e| e.head.name.bytes() == name.bytes())
 }
 
 /// What becomes of an entry where a line is offered for it, by the compiler's program of the ops.
@@ -37,6 +40,7 @@ fn becoming<F: Fetch>(
     made: &Program,
     n: u8,
     line: &[Issued],
+    room: usize,
     alloc: Global,
 ) -> Result<Offered, NoMemory>
     requires legal { IsLegalCode (F.shape entry.now) (F.code entry.now) }
@@ -45,7 +49,7 @@ fn becoming<F: Fetch>(
     requires made_legal { IsProgram (microprograms_of made.now) }
     requires implements { (ops : List TextOp) × ImplementsAll (microprograms_of made.now) ops }
     ensures outcome { IfOk result (λ x. (ops : List TextOp)
-        → ImplementsAll (microprograms_of made.now) ops → IsOutcome n ops (record {
+        → ImplementsAll (microprograms_of made.now) ops → IsOutcome n room ops (record {
           name = F.name entry.now;
           shape = F.shape entry.now;
           code = F.code entry.now;
@@ -58,12 +62,13 @@ fn becoming<F: Fetch>(
             entry: copied(entry, alloc)?,
             outcome: Outcome::NoOp,
         }),
-        Some(k) => with_line(entry, &entries[k], n, line, alloc),
+        Some(k) => with_line(entry, &entries[k], n, line, room, alloc),
     }
 }
 
 /// The program with a straight line at width n in each entry for which the offered one proves right
 /// and shorter, by the program that the compiler made of the ops; all other entries as they were.
+/// All entries together have at most so many instructions more.
 ///
 /// Only a lack of memory is an `Err`.
 pub fn with_lines(
@@ -71,6 +76,7 @@ pub fn with_lines(
     made: &Program,
     n: u8,
     lines: &[Vec<Issued>],
+    room: usize,
     alloc: Global,
 ) -> Result<Optimised, NoMemory>
     requires program { IsProgram prog.now.programs }
@@ -82,14 +88,22 @@ pub fn with_lines(
     ensures program { IfOk result (λ x. IsProgram (microprograms_of x.program)) }
     ensures outcomes { IfOk result (λ x. (ops : List TextOp)
         → ImplementsAll (microprograms_of made.now) ops
-        → AreOutcomes n ops prog.now.programs (lines_of lines.now) (microprograms_of x.program)
+        → AreOutcomes n room ops prog.now.programs (lines_of lines.now) (microprograms_of x.program)
         x.outcomes.items) }
 {
     let mut entries = Vec::new(alloc);
     let mut outcomes = Vec::new(alloc);
+    let mut left = room;
     for k in 0..prog.entries() {
         let line = &lines[usize::from(k)];
-        let offered = becoming(&prog.entry(k), made, n, line, alloc)?;
+        let entry = prog.entry(k);
+        let offered = becoming(&entry, made, n, line, left, alloc)?;
+        let more = offered
+            .entry
+            .code
+            .len()
+            .saturating_sub(usize::from(entry.len()));
+        left = left.saturating_sub(more);
         keep(&mut entries, offered.entry)?;
         keep(&mut outcomes, offered.outcome)?;
     }

@@ -4,7 +4,7 @@ ghost use Rattle.std.specs.Prelude.{◌≡◌, ◌+◌, ◌++◌, count_by, deci
 ghost use Rattle.uprog_code.specs.Shape.{microprogram_of, microprograms_of};
 ghost use Rattle.optimise_job.specs.Outcomes.{commands};
 ghost use Rattle.optimise_job.specs.Report.{entry_line, entry_lines, is_taken, last_line};
-ghost use Rattle.optimise_job.specs.Report.{outcome_text, report as report_of};
+ghost use Rattle.optimise_job.specs.Report.{outcome_text, report as report_of, unproved_text};
 
 use crate::offer::Outcome;
 use bit_rows::Value;
@@ -12,6 +12,7 @@ use faults::NoMemory;
 use itoa::Buffer;
 use std::alloc::Global;
 use uprog_code::{Counts, EntryCode, Program};
+use verify_core::Verdict;
 
 /// Appends bytes.
 fn put(out: &mut Vec<u8>, bytes: &[u8]) -> Result<(), NoMemory>
@@ -36,6 +37,18 @@ fn all_commands(counts: &Counts) -> Value
     Value::from(counts.aap) + Value::from(counts.ap)
 }
 
+/// What is found of an entry that is not found right.
+fn unproved_text(verdict: &Verdict) -> &'static [u8]
+    ensures { result.now ≡ unproved_text verdict.now }
+{
+    match verdict {
+        Verdict::Wrong(_) => b" wrong\n",
+        Verdict::Stuck(_) => b" bad_walk\n",
+        Verdict::OtherKinds => b" other_kinds\n",
+        Verdict::Right(_) | Verdict::Unknown(_) => b" unknown\n",
+    }
+}
+
 /// Appends what became of an entry.
 fn put_outcome(out: &mut Vec<u8>, outcome: &Outcome) -> Result<(), NoMemory>
     ensures { OnOk result (out.new.items ≡ out.old.items ++ outcome_text outcome.now) }
@@ -46,7 +59,7 @@ fn put_outcome(out: &mut Vec<u8>, outcome: &Outcome) -> Result<(), NoMemory>
             put_number(out, b" to ", all_commands(after))?;
             put(out, b"\n")
         }
-        Outcome::Unproved(_) => put(out, b" unknown\n"),
+        Outcome::Unproved(verdict) => put(out, unproved_text(verdict)),
         _ => put(out, b" as it was\n"),
     }
 }

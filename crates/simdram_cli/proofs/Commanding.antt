@@ -184,8 +184,8 @@ on_four_right verb first second third fourth =
       apart = second_holds (bytes_eq verb (codes "exec")) apart e;
       numbers = tt;
     }) (either (bytes_eq verb (codes "optimise"))
-    (optimise_on first second third.now fourth (codes "1") (codes "100000")) None
-    (optimise_right first second third.now fourth (codes "1") (codes "100000")) (λ none. tt)))
+    (optimise_on first second third.now fourth (codes "1") (codes "50000")) None
+    (optimise_right first second third.now fourth (codes "1") (codes "50000")) (λ none. tt)))
 
 trace_right : (verb : List ℕ) (names : TraceNames) → AreRight (trace_on verb names)
 trace_right verb names =
@@ -208,8 +208,8 @@ on_five_right verb first second third fourth fifth =
     let traced : TraceNames =
     record { prog = first; script = second; image = third; out = fourth; trace = fifth } in
     either (bytes_eq verb (codes "optimise"))
-    (optimise_on first second third.now fourth fifth.now (codes "100000")) _
-    (optimise_right first second third.now fourth fifth.now (codes "100000")) (λ other.
+    (optimise_on first second third.now fourth fifth.now (codes "50000")) _
+    (optimise_right first second third.now fourth fifth.now (codes "50000")) (λ other.
     if_or (bytes_eq verb (codes "run") && apart) (Run (record
     { ops = first; prog = second; script = third; image = fourth; out = fifth }))
     (trace_on verb traced)

@@ -10,6 +10,7 @@ pub mod Progress
 pub mod Performing
 pub mod Running
 pub mod Migrating
+pub mod MadeFiles
 pub mod Optimising
 pub mod Compiling
 pub mod Accounting

@@ -1,11 +1,15 @@
 -- The facts of `optimise`: its statuses, its files, its memory, and what one that is done leaves.
 use Rattle.std.proofs.Common.{◌≡◌, ℕ, ◌<◌, ◌≤◌, List, [], ◌∷◌, ◌++◌, Option, None, refl, ◌∙◌, ap, subst}
-use Rattle.std.proofs.Common.{inr}
+use Rattle.std.proofs.Common.{inr, sym, Ok, Some}
 use Rattle.std.specs.Prelude.{map}
 use Rattle.bit_rows.specs.declared.TheConstants.{WIDTH_MAX}
 use Rattle.host_edge.specs.Views.{Files, Known}
 use Rattle.uprog_code.specs.Texts.{text_op}
+use Rattle.uprog_code.specs.Programs.{IsProgram}
 use Rattle.uprog_bin.specs.Spelling.{program_bytes}
+use Rattle.uprog_bin.proofs.Whole.{read}
+use Rattle.machine_model.specs.Routines.{Program}
+use Rattle.optimise_job.specs.Outcomes.{AreOutcomes}
 use Rattle.optimise_job.specs.Report.{report}
 use Rattle.optimise_job.proofs.AsGood.{all_good}
 use Rattle.optimise_job.proofs.Implemented.{still_implement}
@@ -22,8 +26,8 @@ use Rattle.simdram_cli.specs.declared.words.OptimiseNames.{OptimiseNames}
 use Rattle.simdram_cli.specs.declared.words.TheConstants.{OPS_MAX, PROG_MAX}
 use Rattle.simdram_cli.specs.Complete.{IsOps, IsProg}
 use Rattle.simdram_cli.specs.Inputs.{ops_in}
-use Rattle.simdram_cli.specs.Optimise.{IsMade, Optimised, made_plan, optimise_plan}
-use Rattle.simdram_cli.specs.Programs.{prog_in}
+use Rattle.simdram_cli.specs.Optimise.{IsMade, Optimised, made_plan, optimise_plan, room_for}
+use Rattle.simdram_cli.specs.Programs.{prog_in, program_or_refusal}
 use Rattle.simdram_cli.specs.Words.{HasNumbers}
 use Rattle.simdram_cli.proofs.Completes.{IsOneOf}
 use Rattle.simdram_cli.proofs.JobPlans.{good_file, ops_refuses, prog_refuses}
@@ -73,6 +77,13 @@ optimise_good names holds good =
     (λ made. made_plan names made))) holds good.1
     (((λ e. cc), tt), λ made is. (((λ e. cc), tt), (((λ e. cc), tt), refl))))
 
+-- a program of a version 2 file is read again
+program_read : (ms : Program) → IsProgram ms → prog_in (program_bytes 2 ms) ≡ Ok ms
+program_read ms legal = ap program_or_refusal (read 2 ms legal (inr refl))
+
+file_is : (a b : List ℕ) → Some a ≡ Some b → a ≡ b
+file_is a b e = cc
+
 pub optimised : (names : OptimiseNames) → HasNumbers (Optimise names) → (old new : World)
     (status : ℕ) → IsDelivered (optimise_plan names) old new status
     → Known (λ before after. Optimised names before after old new) old.files.holds new.files.holds
@@ -112,7 +123,9 @@ optimised names numbers old new status d =
     ).
     let own = read_from (before names.prog.now) prog_text program prog_there prog_is is.file in
     let ops = map text_op made.ops in
-    let good = all_good names.width ops program made.lines made.program made.outcomes is.are in
+    let room = room_for prog_text in
+    let good = all_good names.width room ops program made.lines made.program made.outcomes is.are
+    in
     record {
       ops = made.ops;
       program = program;
@@ -127,9 +140,13 @@ optimised names numbers old new status d =
       made_legal = is.legal;
       is = ap (λ (x : Files). x names.new.now) same
           ∙ at_own names.new.now (program_bytes 2 made.program) before;
-      are = is.are;
+      within = is.within;
+      accepted = program_read made.program is.legal;
+      are = subst (λ (file : List ℕ). AreOutcomes names.width (room_for file) ops program made.lines
+          made.program made.outcomes) (file_is prog_text (program_bytes own.version program)
+          (sym prog_there ∙ own.is)) is.are;
       good = good;
-      right = all_right names.width ops program made.lines made.program made.outcomes is.are;
+      right = all_right names.width room ops program made.lines made.program made.outcomes is.are;
       implements = still_implement names.width ops program made.program numbers.0 numbers.1
           own.legal good;
       others = λ other apart. ap (λ (x : Files). x other) same

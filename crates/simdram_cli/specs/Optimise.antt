@@ -1,5 +1,6 @@
 -- The command `optimise`.
-use Rattle.std.specs.Prelude.{◌≡◌, ◌≢◌, map, ℕ, List, [], ◌∷◌, ◌++◌, Some}
+use Rattle.std.specs.Prelude.{◌≡◌, ◌≢◌, ◌-◌, ◌/◌, ◌≤◌, length, map, ℕ, List, [], ◌∷◌, ◌++◌}
+use Rattle.std.specs.Prelude.{Ok, Some}
 use Rattle.host_edge.specs.Views.{Files, Known}
 use Rattle.op_text.specs.Language.{Operation}
 use Rattle.op_text.specs.OpsOf.{IsOpsOf}
@@ -22,6 +23,11 @@ use Rattle.simdram_cli.specs.Headline.{Spells}
 use Rattle.simdram_cli.specs.Inputs.{ops_in}
 use Rattle.simdram_cli.specs.Programs.{prog_in}
 
+-- how many instructions a program may have more whose file is this: no command loads a longer file
+-- than PROG_MAX, and an instruction takes eight bytes
+abbrev pub room_for : List ℕ → ℕ
+room_for file = (PROG_MAX - length file) / 8
+
 -- what was made of a program: the ops of a text, the line that was offered for each entry, the new
 -- program, and what became of each entry
 pub record Made : Type 0 where
@@ -36,7 +42,9 @@ pub record IsMade (n : ℕ) (ops_text prog_text : List ℕ) (program : Program) 
   pub ops : IsOpsOf ops_text made.ops
   pub file : IsProgramFile prog_text
   pub legal : IsProgram made.program
-  pub are : AreOutcomes n (map text_op made.ops) program made.lines made.program made.outcomes
+  pub are : AreOutcomes n (room_for prog_text) (map text_op made.ops) program made.lines
+      made.program made.outcomes
+  pub within : length (program_bytes 2 made.program) ≤ PROG_MAX
 
 -- the new program is stored as NEW, and what became of each entry is sent
 abbrev pub made_plan : OptimiseNames → Made → Plan
@@ -51,10 +59,11 @@ optimise_plan names = Loads names.ops.now OPS_MAX ops_in (λ ops_text u.
     (λ made. made_plan names made))))
 
 -- NEW is the version 2 file of a program with the entries of PROG's, in order. At each width but N
--- each issues what PROG's issues; at N it takes no more commands, and does the op of its name in OPS
--- unless it was told that it is not known whether PROG's did. Where PROG's program implements the ops
--- at all widths, so does NEW's. All other files are as at entry, and what became of each entry was
--- sent
+-- each issues what PROG's issues; at N it takes no more commands, and does the op of its name in
+-- OPS unless it was told that it is not known whether PROG's did. Where PROG's program implements
+-- the ops at all widths, so does NEW's. Each command that loads a program file takes NEW, as this
+-- program (`within`, `accepted`). All other files are as at entry, and what became of each
+-- entry was sent
 pub record Optimised (names : OptimiseNames) (before after : Files) (old new : World) : Type 0 where
   pub ops : List Operation
   pub program : Program
@@ -68,7 +77,10 @@ pub record Optimised (names : OptimiseNames) (before after : Files) (old new : W
   pub prog_is : before names.prog.now ≡ Some (program_bytes version program)
   pub made_legal : IsProgram made
   pub is : after names.new.now ≡ Some (program_bytes 2 made)
-  pub are : AreOutcomes names.width (map text_op ops) program lines made outcomes
+  pub within : length (program_bytes 2 made) ≤ PROG_MAX
+  pub accepted : prog_in (program_bytes 2 made) ≡ Ok made
+  pub are : AreOutcomes names.width (room_for (program_bytes version program)) (map text_op ops)
+      program lines made outcomes
   pub good : AreAsGood names.width (map text_op ops) program made
   pub right : AreRightIfKnown names.width (map text_op ops) made outcomes
   pub implements : ImplementsAll program (map text_op ops) → ImplementsAll made (map text_op ops)
@@ -76,12 +88,12 @@ pub record Optimised (names : OptimiseNames) (before after : Files) (old new : W
   pub sent : Known (λ x y. y ≡ x ++ report names.width made outcomes) old.sink.sent new.sink.sent
 
 -- the file and the text are those of what was made of a program
-pub record IsOptimised (n : ℕ) (program : Program) (ops : List Operation) (file text : List ℕ)
+pub record IsOptimised (n room : ℕ) (program : Program) (ops : List Operation) (file text : List ℕ)
     : Type 0 where
   pub lines : List (List Issued)
   pub made : Program
   pub outcomes : List Outcome
   pub legal : IsProgram made
-  pub are : AreOutcomes n (map text_op ops) program lines made outcomes
+  pub are : AreOutcomes n room (map text_op ops) program lines made outcomes
   pub file_is : file ≡ program_bytes 2 made
   pub text_is : text ≡ report n made outcomes

@@ -161,14 +161,14 @@ command_on_four verb first second third fourth =
     && inputs_apart first.now second.now third.now fourth.now
     then Some (Exec (record { prog = first; script = second; image = third; out = fourth }))
     else if bytes_eq verb (codes "optimise")
-    then optimise_on first second third.now fourth (codes "1") (codes "100000") else None
+    then optimise_on first second third.now fourth (codes "1") (codes "50000") else None
 
 -- the command of five words after its own
 abbrev pub command_on_five : List ℕ → (first second third fourth fifth : Bor (List ℕ))
     → Option Command
 command_on_five verb first second third fourth fifth =
     if bytes_eq verb (codes "optimise")
-    then optimise_on first second third.now fourth fifth.now (codes "100000")
+    then optimise_on first second third.now fourth fifth.now (codes "50000")
     else if bytes_eq verb (codes "run")
     && are_apart first.now second.now third.now fourth.now fifth.now
     then Some (Run (record

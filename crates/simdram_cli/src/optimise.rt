@@ -1,6 +1,6 @@
 //! The command `optimise`.
 
-ghost use Rattle.std.specs.Prelude.{◌<◌, ◌≤◌, IfOk};
+ghost use Rattle.std.specs.Prelude.{◌≡◌, ◌-◌, ◌/◌, ◌<◌, ◌≤◌, IfOk};
 ghost use Rattle.bit_rows.specs.declared.TheConstants.{WIDTH_MAX};
 ghost use Rattle.op_text.specs.Language.{operations};
 ghost use Rattle.op_text.specs.Spelling.{MeetRules};
@@ -22,27 +22,36 @@ use std::alloc::Global;
 use uprog_bin::{ProgView, encode};
 use uprog_gen::compile_ops;
 
+/// How many instructions a program may have more whose file is so long: no command loads a longer
+/// file than `PROG_MAX`, and an instruction takes eight bytes.
+fn room_for(bytes: usize) -> usize
+    ensures { result ≡ (PROG_MAX - bytes) / 8 }
+{
+    (PROG_MAX as usize).saturating_sub(bytes) / 8
+}
+
 /// The file of the program with what was found for its entries, and the report of it.
 fn optimised(
     ops: &Ops,
     prog: &ProgView<'_>,
     n: u8,
     effort: Effort,
+    room: usize,
     alloc: Global,
 ) -> Result<(Vec<u8>, Vec<u8>), NoMemory>
     requires meets { MeetRules (operations ops.now) }
     requires program { IsProgram prog.now.programs }
     requires some { 0 < n }
     requires narrow { n ≤ WIDTH_MAX }
-    ensures { IfOk result (λ made. IsOptimised n prog.now.programs (operations ops.now)
-        made.0.items made.1.items) }
+    ensures { IfOk result (λ made. IsOptimised n room prog.now.programs
+        (operations ops.now) made.0.items made.1.items) }
 {
     let Ok(compiled) = compile_ops(ops, alloc) else {
         return Err(NoMemory);
     };
     let made = &compiled.program;
     let lines = searched_lines(prog, made, n, effort, alloc)?;
-    let new = with_lines(prog, made, n, lines.as_slice(), alloc)?;
+    let new = with_lines(prog, made, n, lines.as_slice(), room, alloc)?;
     let text = report(&new.program, new.outcomes.as_slice(), n, alloc)?;
     let file = encode(&new.program, alloc)?;
     Ok((file, text))
@@ -72,7 +81,8 @@ pub(crate) fn optimise<'a, F: Folder, S: Sink>(
         seed: names.seed,
         work: names.work,
     };
-    let Ok((file, text)) = optimised(&ops, &prog, names.width, effort, alloc) else {
+    let room = room_for(bytes.len());
+    let Ok((file, text)) = optimised(&ops, &prog, names.width, effort, room, alloc) else {
         return Err(Stop::NoMemory);
     };
     if files.store(names.new, &file).is_err() {

@@ -141,8 +141,8 @@ pub struct VerifyNames<'a> {
     pub widths: Widths,
 }
 
-/// The files of `optimise`, its width, where its generator begins, and how many changes it tries for
-/// each command.
+/// The files of `optimise`, its width, where its generator begins, and how many changes it tries
+/// for each command.
 #[derive(Clone, Copy)]
 pub struct OptimiseNames<'a> {
     pub ops: &'a str,
@@ -369,7 +369,7 @@ fn command_on_four<'a>(
             out: fourth,
         }))
     } else if verb == "optimise" {
-        optimise_on(first, second, third, fourth, "1", "100000")
+        optimise_on(first, second, third, fourth, "1", "50000")
     } else {
         None
     }
@@ -461,7 +461,7 @@ fn command_on_five<'a>(
         fifth.entry }
 {
     if verb == "optimise" {
-        optimise_on(first, second, third, fourth, fifth, "100000")
+        optimise_on(first, second, third, fourth, fifth, "50000")
     } else if verb == "run" && are_apart(first, second, third, fourth, fifth) {
         Some(Command::Run(RunNames {
             ops: first,

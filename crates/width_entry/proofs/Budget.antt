@@ -15,6 +15,7 @@ use Rattle.uprog_code.specs.Machine.{Ended, HasEnded, Issue, IssueAap, IssueAp, 
 use Rattle.uprog_code.specs.Machine.{act, act_at, all_in_range, command_at, issue, issued, issues_of}
 use Rattle.uprog_code.specs.Machine.{onto, start, trace}
 use Rattle.uprog_code.proofs.Steps.{trace_is}
+use Rattle.width_entry.specs.Lines.{line_room}
 use Rattle.width_entry.specs.Widths.{IsForWidth, IssuesSame, moved, test_steps, trace_less}
 
 -- where the one ends, the other ends with the same commands
@@ -117,7 +118,7 @@ issues_same n m line e r is some narrow ne ends =
     let old = trace e.shape e.code m in
     let new = trace r.shape r.code m in
     let less = trace_less (test_steps n m) e m in
-    let by = length r.code - length e.code in
+    let by = line_room line + 11 in
     let same = is.elsewhere m some narrow ne in
     let follows : Follows less old = λ cs f. sym (trace_is e.shape e.code m)
     ∙ longer e.shape m e.code (WALK_MAX - test_steps n m) WALK_MAX 0 start (omega arith) cs f in

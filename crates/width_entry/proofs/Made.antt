@@ -8,10 +8,11 @@ use Rattle.uprog_code.specs.declared.code.Uop.{Uop}
 use Rattle.uprog_code.specs.Shape.{Microprogram, Shape}
 use Rattle.uprog_code.specs.Machine.{Issue, issue, start}
 use Rattle.uprog_code.specs.Legal.{IsLegalCode}
-use Rattle.width_entry.specs.Lines.{AreNameable}
+use Rattle.width_entry.specs.Lines.{AreNameable, line_room}
 use Rattle.width_entry.specs.Code.{behind, line_code}
 use Rattle.width_entry.specs.Widths.{IsForWidth, moved, test_steps}
 use Rattle.width_entry.proofs.Legal.{behind_legal, long_is}
+use Rattle.width_entry.proofs.Lines.{line_room_is}
 use Rattle.width_entry.proofs.Widths.{elsewhere, here}
 
 module _ (e : Microprogram) (n : ℕ) (cs : List Issue) (some : 0 < n) (narrow : n ≤ WIDTH_MAX)
@@ -20,17 +21,17 @@ module _ (e : Microprogram) (n : ℕ) (cs : List Issue) (some : 0 < n) (narrow :
     abbrev code : List Uop
     code = behind n (line_code cs) e.code
 
-    by_is : length code - length e.code ≡ length (line_code cs) + 11
-    by_is = let long = long_is n (line_code cs) e.code in omega (arith, long)
+    by_is : length (line_code cs) + 11 ≡ line_room cs + 11
+    by_is = let room = line_room_is cs in omega (arith, room)
 
     for_width : IsForWidth n cs e (record { name = e.name; shape = e.shape; code = code })
     for_width = record {
       name = refl;
       shape = refl;
+      long = let long = long_is n (line_code cs) e.code in omega (arith, long, by_is);
       here = here e.shape n cs e.code some narrow named room;
       elsewhere = λ m pos le ne. elsewhere e.shape n cs e.code m some narrow pos ne
-          ∙ ap (λ by. moved by (issue e.shape e.code m (WALK_MAX - test_steps n m) 0 start))
-          (sym by_is);
+          ∙ ap (λ by. moved by (issue e.shape e.code m (WALK_MAX - test_steps n m) 0 start)) by_is;
     }
 
     legal : IsLegalCode e.shape e.code → IsLegalCode e.shape code

@@ -6,6 +6,7 @@ use Rattle.uprog_code.specs.declared.TheConstants.{WALK_MAX}
 use Rattle.uprog_code.specs.Shape.{Microprogram}
 use Rattle.uprog_code.specs.Machine.{Issue, Trace, Ended, Stuck, HasEnded, issue, issues_of}
 use Rattle.uprog_code.specs.Machine.{start, trace}
+use Rattle.width_entry.specs.Lines.{line_room}
 
 -- the same commands, and the same end; where the walk is stuck, so many instructions further on
 abbrev pub moved : ℕ → Trace → Trace
@@ -22,13 +23,14 @@ abbrev pub test_steps : ℕ → ℕ → ℕ
 test_steps n m = if nat_lt m n then 4 * m + 6 else 4 * n + 5
 
 -- At width n, r issues the line and ends; at each other width it does what e does, with so many
--- instructions less in the budget, and stuck where e is, its own instructions further on
+-- instructions less in the budget, and stuck where e is, behind the instructions that it has more
 pub record IsForWidth (n : ℕ) (line : List Issue) (e r : Microprogram) : Type 0 where
   pub name : r.name ≡ e.name
   pub shape : r.shape ≡ e.shape
+  pub long : length r.code ≡ line_room line + 11 + length e.code
   pub here : trace r.shape r.code n ≡ Ended line
   pub elsewhere : (m : ℕ) → 0 < m → m ≤ WIDTH_MAX → m ≢ n → trace r.shape r.code m
-      ≡ moved (length r.code - length e.code) (trace_less (test_steps n m) e m)
+      ≡ moved (line_room line + 11) (trace_less (test_steps n m) e m)
 
 -- both walks end with the same commands, or neither ends
 pub record IssuesSame (e r : Microprogram) (n : ℕ) : Type 0 where

@@ -50,7 +50,7 @@ fn code_for<F: Fetch>(entry: &F, n: u8, line: &[Uop], alloc: Global) -> Result<V
     Ok(code)
 }
 
-/// Whether an entry with a line of so many instructions would be too long, beside so many of its own.
+/// Whether an entry with a line of so many instructions, and so many of its own, would be too long.
 fn has_no_room(line: usize, own: u16) -> bool
     ensures { IsTrue result ↔ (2 ^ 16 ≤ line + 11 + own) }
 {

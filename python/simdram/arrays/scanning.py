@@ -21,7 +21,7 @@ from .refusals import Refused, Stopped, last_line
 COUNTED = re.compile(r"count (\d+) of (\d+) aap=(\d+) ap=(\d+)")
 REFUSED = re.compile(r"query refused (\w+) (\d+)")
 # refusals that go by the arrays given, and not by the room beside them
-OF_NAMES = ("no_object", "count", "range")
+OF_NAMES = ("no_object", "slice", "count", "range")
 
 
 class Count(typing.NamedTuple):

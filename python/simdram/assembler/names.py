@@ -4,7 +4,7 @@ import re
 import typing
 
 from ..files.fields import NAME_BYTES
-from ..files.row_rules import BIT, REGISTERS, RESULT, SOURCE, SPILL, SPILLS, WORD
+from ..files.program import BIT, REGISTERS, RESULT, SOURCE, SPILL, SPILLS, WORD
 from ..rules.answer import Breach
 from ..rules.tokens import Token
 from .cells import NAMES as CELLS

@@ -13,7 +13,6 @@ commands, rows and ratio, for each file. --total is a table for a paper: the com
 
 import argparse
 import os
-import typing
 
 from ..launcher.faults import Fault
 from ..launcher.settings import Settings
@@ -36,7 +35,7 @@ def row_of(cost: EntryCost, width: int, banks: int, words: int) -> list:
     return [cost.name, width, cost.aap, cost.ap, cost.commands, banks, cost.commands * banks, f"{each:.6g}", cost.rows, ""]
 
 
-Costs = typing.Dict[typing.Tuple[str, int], typing.List[EntryCost]]
+Costs = dict[tuple[str, int], list[EntryCost]]
 
 
 def of_one(path: str, widths: list[int], found: Costs, banks: int, words: int) -> Rows:

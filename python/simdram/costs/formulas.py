@@ -12,7 +12,7 @@ import typing
 
 from ..launcher.faults import Fault
 
-Number = typing.Union[int, float, fractions.Fraction]
+Number = int | float | fractions.Fraction
 # nothing that is drawn comes near this
 GREATEST = 10**30
 LONGEST = 200

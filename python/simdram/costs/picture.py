@@ -74,7 +74,6 @@ class Picture:
         return max(0.0, math.log(y / self.bottom) / reach) if y > 0 and reach > 0 else 0.0
 
     def place(self, x: float, y: float) -> tuple[float, float]:
-        """Where a point is in the picture."""
         if self.is_log:
             reach = math.log(self.last / self.first)
             along = math.log(x / self.first) / reach if reach else 0
@@ -83,13 +82,11 @@ class Picture:
         return LEFT + WIDE * along, ABOVE + HIGH - HIGH * self.height(y)
 
     def y_marks(self) -> list[float]:
-        """The y that have a mark."""
         if not self.is_high_log:
             return stepped(self.top, 8)
         return powers_of_ten(self.bottom, self.top)
 
     def x_marks(self) -> list[float]:
-        """The x that have a mark."""
         if not self.is_log:
             return stepped(self.last, 10)
         return powers_of_ten(self.first, self.last) or [self.first]
@@ -138,7 +135,6 @@ def axes(picture: Picture) -> typing.Iterator[str]:
 
 
 def svg(picture: Picture) -> str:
-    """The picture as SVG."""
     high = max(HIGH + ABOVE + BELOW, ABOVE + 14 + LEGEND_LINE * len(picture.lines))
     found = [f'<svg xmlns="http://www.w3.org/2000/svg" width="{LEFT + WIDE + LEGEND}" height="{high}" font-family="sans-serif" '
              'font-size="14">', element("rect", width="100%", height="100%", fill="#fff"), *axes(picture)]
@@ -153,7 +149,6 @@ def svg(picture: Picture) -> str:
 
 
 def png(picture: Picture, out: str) -> bytes:
-    """The picture as PNG."""
     try:
         from matplotlib.backends.backend_agg import FigureCanvasAgg
         from matplotlib.figure import Figure

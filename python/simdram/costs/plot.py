@@ -23,7 +23,7 @@ from .cost_table import labels_of, names_of, of_ops
 from .costs import EntryCost, costs_until_stuck
 from .picture import COLOURS, Line, Picture
 
-Counts = typing.Dict[str, typing.List[float]]
+Counts = dict[str, list[float]]
 # what may be drawn of an entry, with the name of its axis
 COLUMNS = {"commands": "row commands (AAP and AP)", "aap": "AAP", "ap": "AP", "rows": "scratch rows"}
 

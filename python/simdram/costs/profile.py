@@ -71,7 +71,6 @@ def share(row: Row, whole: int) -> str:
 
 
 def cells_of(row: Row, whole: int, has_times: bool) -> list[str]:
-    """A row of the table."""
     numbers = [row.commands, row.aap, row.ap, *([row.times] if has_times else [])]
     return [share(row, whole), *map(str, numbers), row.what]
 

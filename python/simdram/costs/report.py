@@ -20,7 +20,7 @@ from ..launcher.faults import Fault
 from ..launcher.overwrite import content
 from ..launcher.settings import Settings
 from ..launcher.tool_parser import tool_parser
-from ..rules.script_rules import Instruction, read_script
+from ..rules.script_rules import Instruction, loaded_script
 from .table_formats import as_text
 
 OK = re.compile(r"(\d+) ok aap=(\d+) ap=(\d+)")
@@ -34,16 +34,12 @@ COLUMNS = ("number", "status", "aap", "ap", "banks", "aap_per_bank", "ap_per_ban
 class Script(typing.NamedTuple):
     """A script's instructions, and their lines."""
 
-    instructions: typing.List[Instruction]
-    lines: typing.List[str]
+    instructions: list[Instruction]
+    lines: list[str]
 
     @classmethod
     def load(cls, path: str) -> "Script":
-        """The script in a file."""
-        data = load(path, "script")
-        instructions, fault = read_script(path, data)
-        if fault:
-            raise Fault(f"{path} {fault.place}: {fault.kind}: {fault.rule}")
+        instructions, data = loaded_script(path)
         ends = [data[one.head.at:].split(b"\n", 1)[0] for one in instructions]
         return cls(instructions, [line.decode("utf-8", "replace").partition("#")[0].strip() for line in ends])
 
@@ -115,7 +111,6 @@ def host_rows(totals: dict, table: Table) -> dict:
 
 
 def cell(found: dict, name: str) -> str:
-    """A cell of the table."""
     if name == "status" and found["status"] == "refused":
         return " ".join(["refused", found["word"], *map(str, found["at"])])
     given = found.get(name, "")
@@ -129,8 +124,7 @@ def table_of(made: dict) -> str:
 
 
 def parser() -> argparse.ArgumentParser:
-    made = tool_parser("report", __name__)
-    made.add_argument("report", metavar="REPORT", nargs="?")
+    made = tool_parser("report", __name__, "[REPORT]")
     made.add_argument("--json", action="store_true", help="one JSON object")
     made.add_argument("--script", metavar="SCRIPT", help="the script that was executed; needs --image")
     made.add_argument("--image", metavar="IMAGE", help="the image that it was executed on")

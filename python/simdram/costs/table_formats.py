@@ -5,7 +5,7 @@ import io
 import re
 import typing
 
-Rows = typing.List[list]
+Rows = list[list]
 # what LaTeX reads as more than itself
 LATEX = {"\\": r"\textbackslash{}", "~": r"\textasciitilde{}", "^": r"\textasciicircum{}",
          **{sign: f"\\{sign}" for sign in "&%$#_{}"}}
@@ -13,7 +13,6 @@ NUMBER = re.compile(r"-?\d+(\.\d+)?%?|")
 
 
 def texts(rows: Rows) -> list[list[str]]:
-    """The cells as texts."""
     return [[str(cell) for cell in row] for row in rows]
 
 

@@ -20,7 +20,7 @@ def size_of(width: int) -> int:
     return next(size for size in SIZES if width <= 8 * size)
 
 
-def rows_of(cells: bytes, size: int, width: int) -> typing.List[int]:
+def rows_of(cells: bytes, size: int, width: int) -> list[int]:
     """The rows of numbers of `width` bits, the lowest first."""
     rows = []
     for bit in range(width):
@@ -50,8 +50,7 @@ def _array(size: int, data: typing.Any) -> array.array:
     return made
 
 
-def numbers_of(cells: bytes, size: int) -> typing.List[int]:
-    """The numbers that cells hold."""
+def numbers_of(cells: bytes, size: int) -> list[int]:
     if size < 16:
         return _array(size, cells).tolist()
     halves = _array(8, cells).tolist()

@@ -30,7 +30,7 @@ RAISED = (
 )
 
 
-def raised(group: str, number: int) -> typing.Tuple[Line, ...]:
+def raised(group: str, number: int) -> tuple[Line, ...]:
     """The wordlines that an address raises: those of the table for group B, and its own row for C and D."""
     return RAISED[number] if group == "B" else (Line(f"{group}{number}"),)
 

@@ -1,6 +1,5 @@
 """The errors of the file modules."""
 
-
 class FileFault(Exception):
     """A file that is refused: its path, the place in it, the word of the rule, and what is wrong in a sentence.
 

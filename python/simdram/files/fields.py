@@ -57,7 +57,7 @@ class Fields:
             spare = len(self.data) - self.at
             raise self.fault("rest", f"{spare} byte{'s follow' if spare > 1 else ' follows'} the last field", self.at)
 
-    def fault(self, word: str, what: str, at: typing.Optional[int] = None) -> FileFault:
+    def fault(self, word: str, what: str, at: int | None = None) -> FileFault:
         """A fault at the last field that was taken, or at a place."""
         return FileFault(self.path, f"byte {self.last if at is None else at}", word, what)
 

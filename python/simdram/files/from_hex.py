@@ -4,7 +4,6 @@ In NOTE a `#` begins a comment to the end of the line; the rest is the bytes, tw
 program file can be written by hand with a comment for each instruction, such as examples/exec/xor.hex.
 """
 
-import argparse
 import re
 
 from ..launcher.commands import MAGIC
@@ -19,7 +18,6 @@ SHOWN = 40
 
 
 def bytes_in(note: str) -> bytes:
-    """The bytes that a note has."""
     found = bytearray()
     for number, line in enumerate(load(note).decode("utf-8", "replace").split("\n"), 1):
         words = line.partition("#")[0].split()
@@ -30,15 +28,8 @@ def bytes_in(note: str) -> bytes:
     return bytes(found)
 
 
-def parser() -> argparse.ArgumentParser:
-    made = tool_parser("from-hex", __name__)
-    made.add_argument("note", metavar="NOTE")
-    made.add_argument("file", metavar="FILE")
-    return made
-
-
 def main(words: list[str], settings: Settings) -> int:
-    asked = parser().parse_args(words)
+    asked = tool_parser("from-hex", __name__, "NOTE", "FILE").parse_args(words)
     data = bytes_in(asked.note)
     kind = next((kind for kind, magic in MAGIC.items() if data.startswith(magic)), "bytes")
     write(asked.file, data, kind, settings)

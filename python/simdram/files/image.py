@@ -38,7 +38,7 @@ class Image(Table):
     """An image: its geometry, its objects in order, and the contents of all rows."""
 
     def __init__(self, banks: int, rows: int, words: int, objects: typing.Iterable[Object] = (),
-                 contents: typing.Optional[bytes] = None) -> None:
+                 contents: bytes | None = None) -> None:
         wrong = geometry_fault(banks, rows, words)
         if wrong:
             raise ValueError(wrong)
@@ -56,11 +56,9 @@ class Image(Table):
 
     @classmethod
     def load(cls, path: str) -> "Image":
-        """The image in a file."""
         return cls.read(load(path, "image"), path)
 
     def file(self) -> bytes:
-        """The image file."""
         return self.head(MAGIC) + bytes(self.contents)
 
     def save(self, path: str) -> None:
@@ -68,7 +66,6 @@ class Image(Table):
         store(path, self.file())
 
     def find(self, name: str) -> Object:
-        """The object of this name."""
         found = super().find(name)
         if found:
             return found
@@ -103,7 +100,7 @@ class Image(Table):
         """Where a row begins in the contents."""
         return 8 * self.words * (self.rows * bank + row)
 
-    def cells(self, name: str, low: int = 0, width: typing.Optional[int] = None) -> typing.Tuple[bytes, int]:
+    def cells(self, name: str, low: int = 0, width: int | None = None) -> tuple[bytes, int]:
         """The object's elements, or so many bits of them from `low` on, as cells, low byte first, and the size of a cell."""
         found, cells = self.find(name), []
         width = width or found.width
@@ -115,7 +112,7 @@ class Image(Table):
                 cells.append(columns.cells_of(rows, kept, size))
         return b"".join(cells), size
 
-    def get(self, name: str) -> typing.List[int]:
+    def get(self, name: str) -> list[int]:
         """The values of the object's elements."""
         return columns.numbers_of(*self.cells(name))
 

@@ -69,7 +69,6 @@ def add(image: Image, word: str) -> None:
 
 
 def show(image: Image) -> typing.Iterator[str]:
-    """What an image has, as lines."""
     yield f"{image.banks} banks of {image.rows} rows of {image.words} words: {image.columns} columns a bank"
     for one in image.objects:
         segments = -(-one.count // image.columns)

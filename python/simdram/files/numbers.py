@@ -12,7 +12,6 @@ import math
 import re
 import struct
 import sys
-import typing
 
 from . import columns
 from .fault import FileFault
@@ -23,7 +22,7 @@ KIND = re.compile(r"([<>|=])([buif?OcSUV])(\d*)")
 CODES = {"u1": "B", "u2": "H", "u4": "I", "u8": "Q", "i1": "b", "i2": "h", "i4": "i", "i8": "q", "b1": "B"}
 
 
-def read(path: str, width: int, count: int) -> typing.List[int]:
+def read(path: str, width: int, count: int) -> list[int]:
     """The numbers of a file, for an object of this width and count."""
     data = load(path)
     if path.endswith(".npy"):
@@ -36,7 +35,7 @@ def read(path: str, width: int, count: int) -> typing.List[int]:
     return of_table(text, path) if path.endswith(".csv") else of_text(text, path)
 
 
-def of_text(text: str, path: str, first: int = 1) -> typing.List[int]:
+def of_text(text: str, path: str, first: int = 1) -> list[int]:
     """The numbers of a text, whose first line has this number in its file."""
     try:
         return list(map(int, text.replace(",", " ").split()))
@@ -56,7 +55,7 @@ def _no_number(text: str, path: str, first: int) -> FileFault:
     return FileFault(path, "", "number", "a word is no number")
 
 
-def of_table(text: str, path: str) -> typing.List[int]:
+def of_table(text: str, path: str) -> list[int]:
     """The numbers of a table, with a first line of names or without."""
     head, _, rest = text.partition("\n")
     names = [name.strip() for name in head.split(",")]
@@ -81,7 +80,7 @@ def _check_elements(rest: str, path: str) -> None:
             raise FileFault(path, f"line {at}", "element", f"{ascii(line[:40])} where `{k},VALUE` is wanted")
 
 
-def of_array(data: bytes, path: str, width: int, count: int) -> typing.List[int]:
+def of_array(data: bytes, path: str, width: int, count: int) -> list[int]:
     """The numbers of an array file."""
     kind, in_columns, shape, start = _head(data, path)
     match = KIND.fullmatch(kind)
@@ -102,7 +101,7 @@ def of_array(data: bytes, path: str, width: int, count: int) -> typing.List[int]
     return values
 
 
-def _head(data: bytes, path: str) -> typing.Tuple[str, bool, typing.Tuple[int, ...], int]:
+def _head(data: bytes, path: str) -> tuple[str, bool, tuple[int, ...], int]:
     """Of an array file its kind of elements, whether its first axis goes first, its shape, and where elements begin."""
     try:
         if data[:6] != ARRAY_MAGIC:
@@ -116,7 +115,7 @@ def _head(data: bytes, path: str) -> typing.Tuple[str, bool, typing.Tuple[int, .
         raise FileFault(path, "", "array", "no array file, as np.save writes one") from None
 
 
-def _by_rows(values: typing.List[int], shape: typing.Tuple[int, ...]) -> typing.List[int]:
+def _by_rows(values: list[int], shape: tuple[int, ...]) -> list[int]:
     """Values whose first axis goes first, with the last axis first."""
     if len(shape) < 2:
         return values

@@ -4,13 +4,16 @@ import dataclasses
 import re
 import typing
 
+from . import decode
 from .fault import FileFault
 from .fields import Fields, name_field
-from .row_rules import (B_ADDRESS, BIT, C_ADDRESS, INDEXED, REGISTERS, RESULT, SOURCE, SPILL, SPILLS, WORD,  # for its readers too
-                        wrong_rows)
 from .store import load
 
 MAGIC = b"SDMP"
+REGISTERS, SPILLS, CONSTANTS = 8, 32, 2
+B_ADDRESS, C_ADDRESS, RESULT, SOURCE, BIT, WORD, SPILL = range(7)
+INDEXED = (RESULT, SOURCE, WORD)
+SPACES = ("B address", "C address", "result", "source", "bit of scratch", "word of scratch", "spill row")
 # the first word of a text, after comments
 FIRST_WORD = re.compile(rb"(?:[ \t\r\n]+|#[^\n]*)*([A-Za-z_]\w*)")
 ENTRIES, SOURCES, CODE, LARGEST = 32, (1, 4), (1, 65535), 1023
@@ -55,11 +58,10 @@ class Instruction:
 
     @property
     def name(self) -> str:
-        """What it is called."""
         return NAMES[self.kind]
 
     @property
-    def rows(self) -> typing.List[Row]:
+    def rows(self) -> list[Row]:
         """Its one or two rows where it is a command."""
         return [Row(*self.raw[at:at + 3]) for at in (1, 4)][:{AAP: 2, AP: 1}.get(self.kind, 0)]
 
@@ -90,11 +92,11 @@ class Entry:
     """An entry: its operands by kind (`word` or `bit`), its scratch rows and words, and its code."""
 
     name: str
-    sources: typing.Tuple[str, ...]
-    results: typing.Tuple[str, ...]
+    sources: tuple[str, ...]
+    results: tuple[str, ...]
     bits: int
     words: int
-    code: typing.Tuple[Instruction, ...] = ()
+    code: tuple[Instruction, ...] = ()
 
     @property
     def kinds(self) -> int:
@@ -110,7 +112,7 @@ class Entry:
 class Program:
     """A program: the version of its file, and its entries in order."""
 
-    entries: typing.List[Entry]
+    entries: list[Entry]
     version: int = 2
 
     @classmethod
@@ -129,11 +131,9 @@ class Program:
 
     @classmethod
     def load(cls, path: str) -> "Program":
-        """The program in a file."""
         return cls.read(load(path, "program"), path)
 
     def file(self) -> bytes:
-        """The program file, of this version."""
         head, start = MAGIC + self.version.to_bytes(2, "little") + len(self.entries).to_bytes(2, "little"), 0
         for entry in self.entries:
             shape = bytes([len(entry.sources), entry.kinds, entry.bits, entry.words])
@@ -142,7 +142,6 @@ class Program:
         return head + b"".join(one.raw for entry in self.entries for one in entry.code)
 
     def find(self, name: str) -> Entry:
-        """The entry of this name."""
         for entry in self.entries:
             if entry.name == name:
                 return entry
@@ -159,9 +158,9 @@ def text_hint(data: bytes) -> str:
     return "; it is a text of microprograms: assemble it first, by `simdram assemble`" if word in (b"program", b"version") else ""
 
 
-def read_directory(fields: Fields, version: int) -> typing.List[typing.Tuple[Entry, int]]:
+def read_directory(fields: Fields, version: int) -> list[tuple[Entry, int]]:
     """The entries without their code, and the counts of their instructions."""
-    heads: typing.List[typing.Tuple[Entry, int]] = []
+    heads: list[tuple[Entry, int]] = []
     start = 0
     for _ in range(fields.within(2, 0, ENTRIES, "directory", "the number of entries")):
         name = fields.name("directory", {head.name for head, _ in heads})
@@ -175,7 +174,7 @@ def read_directory(fields: Fields, version: int) -> typing.List[typing.Tuple[Ent
     return heads
 
 
-def read_kinds(fields: Fields, version: int, name: str, count: int) -> typing.Tuple[typing.Tuple[str, ...], ...]:
+def read_kinds(fields: Fields, version: int, name: str, count: int) -> tuple[tuple[str, ...], ...]:
     """The kinds of the sources and of the results."""
     byte = fields.number(1)
     second = byte >> 5 & 1
@@ -186,8 +185,7 @@ def read_kinds(fields: Fields, version: int, name: str, count: int) -> typing.Tu
     return tuple(kinds[:count]), tuple([kinds[4], kinds[6]][:1 + second])
 
 
-def read_code(fields: Fields, head: Entry, count: int) -> typing.Tuple[Instruction, ...]:
-    """The instructions of an entry."""
+def read_code(fields: Fields, head: Entry, count: int) -> tuple[Instruction, ...]:
     return tuple(read_instruction(fields, head, count, at) for at in range(count))
 
 
@@ -211,7 +209,7 @@ def read_instruction(fields: Fields, head: Entry, count: int, at: int) -> Instru
     return one
 
 
-def wrong_operand(one: Instruction) -> typing.Optional[str]:
+def wrong_operand(one: Instruction) -> str | None:
     """What is wrong with the registers, the number or the unnamed bytes of an instruction, or nothing."""
     operands = OPERANDS[one.kind]
     for letter, register in (("r", one.register), ("s", one.other)):
@@ -222,3 +220,47 @@ def wrong_operand(one: Instruction) -> typing.Optional[str]:
     named = NAMED[one.kind]
     spare = next((at for at in range(named, len(one.raw)) if one.raw[at]), None)
     return None if spare is None else f"has {one.raw[spare]} in byte {spare}, which is not named there and has to be 0"
+
+
+def counted(count: int, what: str) -> str:
+    """A number of things, in words: `no bit of scratch`, `1 source`, `2 sources`, `2 bits of scratch`."""
+    head, of, rest = what.partition(" of ")
+    return f"{count or 'no'} {head}{'es' if head.endswith('s') and count > 1 else 's' if count > 1 else ''}{of}{rest}"
+
+
+def wrong_row(row: Row, head: Entry) -> str | None:
+    """What is wrong with a row of an entry, wherever it stands, or nothing."""
+    if row.space >= len(SPACES):
+        return f"is of space {row.space}; spaces are 0 to {len(SPACES) - 1}"
+    what = SPACES[row.space]
+    count = (decode.B_ADDRESSES, CONSTANTS, len(head.results), len(head.sources), head.bits, head.words, SPILLS)[row.space]
+    if row.which >= count:
+        owner = "the chip" if row.space in (B_ADDRESS, C_ADDRESS, SPILL) else head.name
+        return f"is {what} {row.which}, counted from 0; {owner} has {counted(count, what)}"
+    if row.space in INDEXED and row.index > REGISTERS:
+        return f"has index {row.index}; an index is 0 to 7 for a register, or 8 for the number 0"
+    if row.space not in INDEXED and row.index:
+        return f"is a {what} with index byte {row.index}; it takes no index, so the byte is 0"
+    return None
+
+
+def wrong_place(rows: typing.Sequence[Row]) -> str | None:
+    """What is wrong with where the rows of a command stand, or nothing."""
+    first, *others = rows
+    if first.space == B_ADDRESS and not decode.legal_first("B", first.which):
+        return f"row 1 is {first}: B8 to B11 raise two wordlines, and only the second row may be one of them"
+    for second in others:
+        if second.space == C_ADDRESS:
+            return f"row 2 is {second}, a constant; no command may write it"
+        if second.space == SOURCE:
+            return f"row 2 is {second}, a source; no command may write it"
+    return None
+
+
+def wrong_rows(rows: typing.Sequence[Row], head: Entry) -> str | None:
+    """What is wrong with the rows of a command, or nothing."""
+    for number, row in enumerate(rows, 1):
+        wrong = wrong_row(row, head)
+        if wrong:
+            return f"row {number} {wrong}"
+    return wrong_place(rows) if rows else None

@@ -70,7 +70,7 @@ def left_beside(path: str) -> list[str]:
 
 
 @contextlib.contextmanager
-def new_file(path: str) -> typing.Iterator[typing.Tuple[typing.BinaryIO, str]]:
+def new_file(path: str) -> typing.Iterator[tuple[typing.BinaryIO, str]]:
     """A new file beside this one, and its name; it is removed where what is done with it fails."""
     for number in range(NAMES):
         name = beside(path, number)

@@ -2,7 +2,6 @@
 
 import dataclasses
 import struct
-import typing
 
 from .fields import Fields, name_field
 
@@ -36,7 +35,7 @@ class Object:
         return self.base < other.past and other.base < self.past
 
 
-def geometry_fault(banks: int, rows: int, words: int) -> typing.Optional[str]:
+def geometry_fault(banks: int, rows: int, words: int) -> str | None:
     """Why no chip has this geometry, or None where one can have it."""
     for name, number, (least, most) in (("banks", banks, BANKS), ("rows", rows, ROWS), ("words", words, WORDS)):
         if not least <= number <= most:
@@ -53,7 +52,7 @@ class Table:
     banks: int
     rows: int
     words: int
-    objects: typing.List[Object] = dataclasses.field(default_factory=list)
+    objects: list[Object] = dataclasses.field(default_factory=list)
 
     @classmethod
     def read(cls, head: bytes, path: str) -> "Table":
@@ -73,7 +72,7 @@ class Table:
         head = HEAD.pack(magic, 1, self.banks, self.rows, self.words, len(self.objects))
         return head + b"".join(name_field(one.name) + RECORD.pack(one.width, one.base, one.count) for one in self.objects)
 
-    def find(self, name: str) -> typing.Optional[Object]:
+    def find(self, name: str) -> Object | None:
         """The object of this name, if there is one."""
         return next((one for one in self.objects if one.name == name), None)
 
@@ -95,7 +94,7 @@ class Table:
         """In how many banks so many elements stand."""
         return -(-count // self.columns)
 
-    def pieces(self) -> typing.List[typing.Tuple[int, int]]:
+    def pieces(self) -> list[tuple[int, int]]:
         """The free pieces of the rows for objects: first row and number of rows, upwards."""
         found, at = [], 0
         for one in sorted(self.objects, key=lambda one: one.base):
@@ -106,7 +105,7 @@ class Table:
             found.append((at, self.rows - SPILL_ROWS - at))
         return found
 
-    def least_free(self, size: int) -> typing.Optional[int]:
+    def least_free(self, size: int) -> int | None:
         """The first row of the least free piece of so many rows."""
         return next((first for first, free in self.pieces() if free >= size), 0 if size == 0 else None)
 
@@ -119,7 +118,7 @@ class Table:
         return max((one.past for one in self.objects), default=0) + size + SPILL_ROWS
 
 
-def read_geometry(fields: Fields) -> typing.Tuple[int, int, int]:
+def read_geometry(fields: Fields) -> tuple[int, int, int]:
     """The banks, rows and words of an image or a trace."""
     banks = fields.within(2, *BANKS, "geometry", "the number of banks")
     rows = fields.within(2, *ROWS, "geometry", "the number of rows")
@@ -130,9 +129,9 @@ def read_geometry(fields: Fields) -> typing.Tuple[int, int, int]:
     return banks, rows, words
 
 
-def read_table(fields: Fields, banks: int, rows: int, words: int) -> typing.List[Object]:
+def read_table(fields: Fields, banks: int, rows: int, words: int) -> list[Object]:
     """The table of objects of an image or a trace."""
-    objects: typing.List[Object] = []
+    objects: list[Object] = []
     for _ in range(fields.within(2, 0, OBJECTS, "object", "the number of objects")):
         name = fields.name("object", {one.name for one in objects})
         width = fields.within(1, *WIDTHS, "object", f"the width of {name}")

@@ -24,7 +24,6 @@ class Address(typing.NamedTuple):
         return f"{self.group}{self.number}"
 
     def file(self) -> bytes:
-        """Its bytes in a trace file."""
         return bytes([decode.GROUPS.index(self.group)]) + self.number.to_bytes(2, "little")
 
 
@@ -34,14 +33,13 @@ class Event:
 
     kind: str
     bank: int
-    addresses: typing.Tuple[Address, ...]
+    addresses: tuple[Address, ...]
     row: bytes = b""
 
     def __str__(self) -> str:
         return " ".join(["bank", str(self.bank), self.kind, *map(str, self.addresses)])
 
     def file(self) -> bytes:
-        """Its bytes in a trace file."""
         places = b"".join(one.file() for one in self.addresses)
         return bytes([KINDS.index(self.kind), self.bank]) + places.ljust(6, b"\0") + self.row
 
@@ -50,7 +48,7 @@ class Event:
 class Trace(Table):
     """A trace: its geometry, its objects, and its events."""
 
-    events: typing.List[Event] = dataclasses.field(default_factory=list)
+    events: list[Event] = dataclasses.field(default_factory=list)
 
     @classmethod
     def read(cls, data: bytes, path: str = "trace") -> "Trace":
@@ -60,7 +58,7 @@ class Trace(Table):
         return made
 
     @classmethod
-    def opened(cls, data: bytes, path: str = "trace") -> "typing.Tuple[Trace, typing.Iterator[Event]]":
+    def opened(cls, data: bytes, path: str = "trace") -> "tuple[Trace, typing.Iterator[Event]]":
         """The trace of a file's bytes without its events, and the events, each read when it is asked for."""
         fields = Fields(data, path)
         table = Table.taken(fields, MAGIC, "trace")
@@ -69,17 +67,15 @@ class Trace(Table):
 
     @classmethod
     def load(cls, path: str) -> "Trace":
-        """The trace in a file."""
         return cls.read(load(path, "trace"), path)
 
     def file(self) -> bytes:
-        """The trace file."""
         count = len(self.events).to_bytes(4, "little")
         return self.head(MAGIC) + count + b"".join(event.file() for event in self.events)
 
     def _events(self, fields: Fields, count: int) -> typing.Iterator[Event]:
         """The events, one after another; equal commands are one event."""
-        known: typing.Dict[bytes, Event] = {}
+        known: dict[bytes, Event] = {}
         for _ in range(count):
             raw = fields.taken(8)
             event = known.get(raw) or self._event(fields, raw)
@@ -108,7 +104,7 @@ class Trace(Table):
         return Address(decode.GROUPS[raw[0]], number)
 
     @staticmethod
-    def _check_places(fields: Fields, kind: str, addresses: typing.Tuple[Address, ...]) -> None:
+    def _check_places(fields: Fields, kind: str, addresses: tuple[Address, ...]) -> None:
         """A write goes to a data row; two lines are not activated first, and C rows are not written."""
         if kind == WRITE:
             if addresses[0].group != "D":

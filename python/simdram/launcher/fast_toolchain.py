@@ -27,7 +27,6 @@ done
 exec {clang} "$@"
 """
 
-
 def link_all(source: pathlib.Path, folder: pathlib.Path, but: tuple[str, ...]) -> None:
     """Makes a folder with a link to each file of another one, but for some names."""
     folder.mkdir()

@@ -28,14 +28,12 @@ its sources, else the program without proofs, which the first call compiles in a
   docs/README.md       answers to common questions; docs/LANGUAGE.md operations; docs/FORMATS.md files, reports, statuses
 """
 
-
 def columns(commands) -> str:
     """Each command's arguments, what it does, and an example."""
     return "".join(f"  {command.usage()}\n      {command.says}\n      simdram {command.example}\n" for command in commands)
 
 
 def all_commands() -> str:
-    """Help on all commands."""
     return f"{HEAD}\nThe program's commands\n{columns(PROGRAM)}\nThe tools around them\n{columns(TOOLS)}\n{FOOT}"
 
 

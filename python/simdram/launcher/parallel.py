@@ -3,12 +3,12 @@
 import concurrent.futures
 import itertools
 import os
-import shutil
 import sys
 import time
 import typing
 
 from . import run_program
+from .say import show
 
 Item = typing.TypeVar("Item")
 Result = typing.TypeVar("Result")
@@ -42,13 +42,12 @@ class Bar:
         self.done += 1
         seconds = time.monotonic() - self.began
         if self.is_shown and seconds > SHOWN_AFTER:
-            shown = self.line(seconds)[:shutil.get_terminal_size().columns - 1]
-            print(f"\r{shown}\033[K", end="", file=sys.stderr, flush=True)
+            show(self.line(seconds))
 
     def end(self) -> None:
         """The bar's line is empty again."""
         if self.is_shown:
-            print("\r\033[K", end="", file=sys.stderr, flush=True)
+            show("")
 
 
 def in_parallel(work: typing.Callable[[Item], Result], items: typing.Sequence[Item], what: str = "",

@@ -3,9 +3,7 @@
 It shows crate by crate what is being proved and about how long it still takes. Ctrl-C stops it; the next call goes on.
 """
 
-import argparse
 import os
-import shutil
 import subprocess
 import sys
 import time
@@ -13,7 +11,7 @@ import time
 from .build import PROVED, SOURCES, home, is_old, need_rt, out_folder
 from .faults import NoProgram
 from .minutes import SECONDS, seconds_of
-from .say import say
+from .say import say, show
 from .settings import Settings
 from .tool_parser import tool_parser
 
@@ -69,9 +67,7 @@ class Progress:
     def show(self, text: str) -> None:
         """A line of rt, in the place of the last one."""
         if self.is_terminal:
-            width = shutil.get_terminal_size().columns - 1
-            shown = f"simdram: {self.line}{': ' if text else ''}{text}"[:width]
-            print(f"\r{shown}\033[K", end="", file=sys.stderr, flush=True)
+            show(f"simdram: {self.line}{': ' if text else ''}{text}")
 
     def heard(self, line: str) -> None:
         """A line that rt printed: a proved function is shown, and what rt waits for."""
@@ -85,7 +81,7 @@ class Progress:
 
     def end(self) -> None:
         if self.is_terminal:
-            print("\r\033[K", end="", file=sys.stderr, flush=True)
+            show("")
 
     def done(self, name: str, seconds: float) -> None:
         """A crate is proved; where it was not proved before, how fast is known."""
@@ -142,12 +138,8 @@ def prove() -> None:
     os.utime(out / PROVED, ns=(began, began))
 
 
-def parser() -> argparse.ArgumentParser:
-    return tool_parser("prove", __name__)
-
-
 def main(words: list[str], _settings: Settings) -> int:
-    parser().parse_args(words)
+    tool_parser("prove", __name__).parse_args(words)
     if is_old(out_folder() / PROVED, SOURCES[PROVED]):
         prove()
     print(out_folder() / PROVED)

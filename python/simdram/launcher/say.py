@@ -2,6 +2,7 @@
 
 import os
 import pathlib
+import shutil
 import sys
 
 from .places import TOP
@@ -12,6 +13,11 @@ KEPT_MAX = 50
 def say(text: str) -> None:
     """A line of the launcher."""
     print(f"simdram: {text}", file=sys.stderr, flush=True)
+
+
+def show(text: str) -> None:
+    """A line on a terminal, in the place of the last one."""
+    print(f"\r{text[:shutil.get_terminal_size().columns - 1]}\033[K", end="", file=sys.stderr, flush=True)
 
 
 def session() -> str:

@@ -16,10 +16,13 @@ def about(module: str) -> str:
 class Parser(argparse.ArgumentParser):
     """A parser that does not pass over what cannot be printed."""
 
-    def _print_message(self, message: str, file: typing.Optional[typing.TextIO] = None) -> None:
+    def _print_message(self, message: str, file: typing.TextIO | None = None) -> None:
         (file or sys.stderr).write(message)
 
 
-def tool_parser(name: str, module: str) -> argparse.ArgumentParser:
-    """A parser for the words of this tool."""
-    return Parser(prog=f"simdram {name}", description=about(module), formatter_class=argparse.RawDescriptionHelpFormatter)
+def tool_parser(name: str, module: str, *words: str) -> argparse.ArgumentParser:
+    """A parser for the words of this tool: those without options, of which `[WORD]` may be left out."""
+    made = Parser(prog=f"simdram {name}", description=about(module), formatter_class=argparse.RawDescriptionHelpFormatter)
+    for word in words:
+        made.add_argument(word.strip("[]").lower(), metavar=word.strip("[]"), nargs="?" if word.startswith("[") else None)
+    return made

@@ -89,7 +89,6 @@ def help_on(word: Word) -> str:
 
 
 def parser_of(command: Command) -> WordsParser:
-    """The parser of a command of the program."""
     made = WordsParser(prog=f"simdram {command.name}", description=command.says, add_help=False, formatter_class=argparse.RawTextHelpFormatter,
                        epilog=f"  simdram {command.example}\n\ndocs/FORMATS.md, How a command ends, has its statuses.")
     for word in command.words:

@@ -22,7 +22,6 @@ class Answer:
     caret: tuple[int, int] = (0, 0)
 
     def lines(self) -> list[str]:
-        """The answer, as lines."""
         found = [f"{self.path} {self.place}: {self.kind}".replace(" : ", ": ")]
         if self.shown:
             found += caret_lines(self.shown, *self.caret)

@@ -56,16 +56,6 @@ def explain_bytes(kind: str, path: str, data: bytes) -> Answer | None:
     return None
 
 
-def explain_script(path: str, data: bytes) -> Answer | None:
-    """The first fault of a script."""
-    return read_script(path, data)[1]
-
-
-def explain_query(path: str, data: bytes) -> Answer | None:
-    """The first fault of a query."""
-    return read_query(path, data)[1]
-
-
 def explain_micro(path: str, data: bytes) -> Answer | None:
     """The first fault of a text of microprograms."""
     try:
@@ -77,7 +67,7 @@ def explain_micro(path: str, data: bytes) -> Answer | None:
 
 def first_fault(kind: str, path: str, data: bytes) -> Answer | None:
     """The first fault of a file of a kind, by itself."""
-    texts = {"ops": explain_ops, "script": explain_script, "query": explain_query, "micro": explain_micro}
+    texts = {"ops": explain_ops, "script": lambda *file: read_script(*file)[1], "query": lambda *file: read_query(*file)[1], "micro": explain_micro}
     if kind not in texts:
         return explain_bytes(kind, path, data)
     found = texts[kind](path, data)
@@ -87,7 +77,6 @@ def first_fault(kind: str, path: str, data: bytes) -> Answer | None:
 
 
 def answer_of(path: str, data: bytes, refusal: Refusal, what: str) -> Answer:
-    """A refusal as an answer."""
     return at_token(path, data, refusal.token, f"{what} refused {refusal.word}", refusal.rule, refusal.right)
 
 

@@ -84,8 +84,7 @@ def found_in(path: str, beside: dict, width: int, settings: Settings) -> list[An
 
 
 def parser() -> argparse.ArgumentParser:
-    made = tool_parser("explain", __name__)
-    made.add_argument("file", metavar="FILE")
+    made = tool_parser("explain", __name__, "FILE")
     made.add_argument("beside", metavar="BESIDE", nargs="*", default=[])
     return made
 

@@ -85,11 +85,9 @@ class OpShape:
             self.defined.setdefault(name, kind)
 
     def tree(self) -> Op:
-        """The op as a tree."""
         return Op(self.name, tuple(self.sources.items()), tuple(self.results.items()), [one.tree() for one in self.statements],
                   self.first.at, self.last.at + 1)
 
     def scratch(self, kind: str) -> list[str]:
         """The names of a kind that stand in scratch, in the order of their places."""
-        return [name for name, its in self.defined.items()
-                if its == kind and name not in self.sources and name not in self.results]
+        return [name for name, its in self.defined.items() if its == kind and name not in self.sources and name not in self.results]

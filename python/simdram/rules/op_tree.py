@@ -16,7 +16,7 @@ class Expr(typing.NamedTuple):
     """An expression of a serial block: a constant ("0", "1"), a name ("read"), or a gate."""
 
     gate: str
-    args: typing.Tuple["Expr", ...] = ()
+    args: tuple["Expr", ...] = ()
     name: str = ""
 
     def __str__(self) -> str:
@@ -31,13 +31,16 @@ class Expr(typing.NamedTuple):
         for arg in self.args:
             yield from arg.names()
 
-    def computed(self, of: typing.Callable[[str], Value], made: typing.Callable[[str, typing.List[Value]], Value]) -> Value:
+    def renamed(self, names: typing.Callable[[str], str]) -> "Expr":
+        """The same of other names."""
+        return read(names(self.name)) if self.gate == "read" else self._replace(args=tuple(arg.renamed(names) for arg in self.args))
+
+    def computed(self, of: typing.Callable[[str], Value], made: typing.Callable[[str, list[Value]], Value]) -> Value:
         """What it gives, from the value of each name and constant and of each gate on values."""
         return made(self.gate, [arg.computed(of, made) for arg in self.args]) if self.args else of(self.name or self.gate)
 
 
 def read(name: str) -> Expr:
-    """A name that is read."""
     return Expr("read", (), name)
 
 
@@ -50,9 +53,13 @@ def gate(kind: str, *args: Expr) -> Expr:
 class WordStatement:
     """A word statement: its targets, the operation, and the names that it takes."""
 
-    targets: typing.Tuple[str, ...]
+    targets: tuple[str, ...]
     op: str
-    args: typing.Tuple[str, ...]
+    args: tuple[str, ...]
+
+    def renamed(self, names: typing.Callable[[str], str]) -> "WordStatement":
+        """The same of other names."""
+        return WordStatement(tuple(map(names, self.targets)), self.op, tuple(map(names, self.args)))
 
 
 @dataclasses.dataclass(frozen=True)
@@ -60,19 +67,28 @@ class Block:
     """A serial block: its direction, its states with their first values, its lets and its assignments."""
 
     direction: str
-    states: typing.Tuple[typing.Tuple[str, int], ...]
-    lets: typing.Tuple[typing.Tuple[str, Expr], ...]
-    assigns: typing.Tuple[typing.Tuple[str, Expr], ...]
+    states: tuple[tuple[str, int], ...]
+    lets: tuple[tuple[str, Expr], ...]
+    assigns: tuple[tuple[str, Expr], ...]
+
+    def changed(self, of: typing.Callable[[Expr], Expr], names: typing.Callable[[str], str] = str) -> "Block":
+        """The block with other right sides, and other names of its own."""
+        lets, assigns = (tuple((names(name), of(expr)) for name, expr in part) for part in (self.lets, self.assigns))
+        return Block(self.direction, tuple((names(name), start) for name, start in self.states), lets, assigns)
+
+    def renamed(self, names: typing.Callable[[str], str]) -> "Block":
+        """The same of other names."""
+        return self.changed(lambda expr: expr.renamed(names), names)
 
     @property
-    def expressions(self) -> typing.List[Expr]:
+    def expressions(self) -> list[Expr]:
         """Its right sides."""
         return [expr for _, expr in self.lets + self.assigns]
 
 
-Statement = typing.Union[WordStatement, Block]
-Body = typing.List[Statement]
-Params = typing.Tuple[typing.Tuple[str, str], ...]
+Statement = WordStatement | Block
+Body = list[Statement]
+Params = tuple[tuple[str, str], ...]
 
 
 @dataclasses.dataclass(frozen=True)
@@ -86,14 +102,13 @@ class Op:
     start: int = 0
     end: int = 0
 
-    def text(self, body: typing.Optional[Body] = None, name: str = "") -> str:
+    def text(self, body: Body | None = None, name: str = "") -> str:
         """The canonical text, with another body or another name."""
         takes, gives = (", ".join(f"{one}: {kind}" for one, kind in part) for part in (self.params, self.results))
         return f"op {name or self.name}({takes}) -> {gives} {{\n{body_text(self.body if body is None else body)}}}\n"
 
 
-def block_lines(block: Block) -> typing.List[str]:
-    """The lines of a block."""
+def block_lines(block: Block) -> list[str]:
     states = ", ".join(f"{name} = {start}" for name, start in block.states)
     lines = [f"  serial {block.direction} ({states}) {{"]
     lines += [f"    let {name} = {value};" for name, value in block.lets]
@@ -102,8 +117,7 @@ def block_lines(block: Block) -> typing.List[str]:
 
 
 def body_text(body: Body) -> str:
-    """The lines of a body."""
-    lines: typing.List[str] = []
+    lines: list[str] = []
     for one in body:
         if isinstance(one, WordStatement):
             lines.append(f"  {', '.join(one.targets)} = {one.op}({', '.join(one.args)});")
@@ -112,7 +126,7 @@ def body_text(body: Body) -> str:
     return "".join(f"{line}\n" for line in lines)
 
 
-def made_by(statement: Statement, kinds: typing.Mapping[str, str]) -> typing.List[typing.Tuple[str, str]]:
+def made_by(statement: Statement, kinds: typing.Mapping[str, str]) -> list[tuple[str, str]]:
     """The names that a statement defines, with their kinds."""
     if isinstance(statement, Block):
         states = dict(statement.states)

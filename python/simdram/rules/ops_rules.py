@@ -36,7 +36,6 @@ class Reader:
 
     @property
     def shape(self) -> OpShape:
-        """The op that is read."""
         return self.shapes[-1]
 
     # tokens

@@ -3,14 +3,14 @@
 import typing
 
 from ..launcher.words import nearest
-from .answer import Answer, Breach, at_token
+from .answer import Answer, Breach
 from .operands import FORM, Operand
 from .tokens import END, NAME, NUMBER, STRANGER, Token, no_token, tokens, value_of
 
 COMPARISONS = ("eq", "gt", "ge", "lt", "le")
 JOINS = {"not": 1, "and": 2, "or": 2}
 NODES, TESTS, VALUE_MAX = 64, 32, 2**128 - 1
-FORMS = "eq, gt, ge, lt, le of (OPERAND, V), not(Q), and(Q, Q), or(Q, Q)"
+FORMS = "eq, gt, ge, lt, le of (NAME, V) or (NAME[LO:HI], V); not(Q), and(Q, Q), or(Q, Q)"
 SIGNS = {">=": "ge", "<=": "le", "==": "eq", "=": "eq", ">": "gt", "<": "lt"}
 
 
@@ -18,9 +18,9 @@ class Node(typing.NamedTuple):
     """A node of a query: its word, of a comparison its operand and number, of a join its sources."""
 
     lead: Token
-    operand: typing.Optional[Operand] = None
-    number: typing.Optional[Token] = None
-    sources: typing.Tuple[int, ...] = ()
+    operand: Operand | None = None
+    number: Token | None = None
+    sources: tuple[int, ...] = ()
 
 
 class Reader:

@@ -14,7 +14,7 @@ from .script_rules import Instruction
 from .tokens import Token
 
 # of each entry and width, where its walk is stuck and why, or nothing
-Stuck = typing.Callable[[str, int], typing.Optional[str]]
+Stuck = typing.Callable[[str, int], str | None]
 COPIES = "xyz"
 
 
@@ -176,7 +176,6 @@ class Checker:
 
 
 def bits(width: int) -> str:
-    """A width in words."""
     return f"{width} bit{'s' * (width != 1)}"
 
 

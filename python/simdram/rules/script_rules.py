@@ -3,6 +3,8 @@
 import dataclasses
 import typing
 
+from ..files.store import load
+from ..launcher.faults import Fault
 from ..launcher.words import nearest
 from .answer import Answer, Breach
 from .operands import WIDTH_MAX, Operand, operand_at
@@ -140,7 +142,6 @@ def check_numbers(one: Instruction) -> None:
 
 
 def order_of(head: Token, words: list[Token]) -> Instruction:
-    """The instruction `order`."""
     texts = [token.text for token in words[:-1]]
     if texts in (["in"], ["turns"]):
         return Instruction("order", head)
@@ -154,8 +155,7 @@ def order_of(head: Token, words: list[Token]) -> Instruction:
 def instruction_of(line: list[Token]) -> Instruction | None:
     """What a line says: an instruction, or nothing where it has no token."""
     if line[-1].kind == STRANGER:
-        raise Breach(line[-1], "lex", no_token(line[-1]),
-                     *(["numbers are at least 0"] if line[-1].text == "-" else []))
+        raise Breach(line[-1], "lex", no_token(line[-1]), *(["numbers are at least 0"] if line[-1].text == "-" else []))
     head, words = line[0], line[1:]
     if head.kind == END:
         return None
@@ -191,3 +191,12 @@ def read_script(path: str, data: bytes) -> tuple[list[Instruction], Answer | Non
         if one is not None:
             found.append(one)
     return found, None
+
+
+def loaded_script(path: str) -> tuple[list[Instruction], bytes]:
+    """The instructions of a script's file, and its bytes."""
+    data = load(path, "script")
+    found, fault = read_script(path, data)
+    if fault:
+        raise Fault(f"{path} {fault.place}: {fault.kind}: {fault.rule}")
+    return found, data

@@ -2,7 +2,6 @@
 
 import dataclasses
 import re
-import typing
 
 RIGHT, WRONG, UNKNOWN, BAD_WALK, NO_ENTRY, OTHER_KINDS = "right", "wrong", "unknown", "bad_walk", "no_entry", "other_kinds"
 # the statuses under which `verify` prints a line for each op
@@ -26,10 +25,10 @@ class Verdict:
     kind: str
     aap: int = 0
     ap: int = 0
-    operands: typing.Dict[str, int] = dataclasses.field(default_factory=dict)
-    gives: typing.Tuple[int, ...] = ()
-    wanted: typing.Tuple[int, ...] = ()
-    start: typing.Tuple[str, ...] = ()
+    operands: dict[str, int] = dataclasses.field(default_factory=dict)
+    gives: tuple[int, ...] = ()
+    wanted: tuple[int, ...] = ()
+    start: tuple[str, ...] = ()
     at: int = 0
     why: str = ""
 
@@ -42,7 +41,7 @@ class Verdict:
         return self.is_right
 
 
-def verdict_of(line: str) -> typing.Optional[Verdict]:
+def verdict_of(line: str) -> Verdict | None:
     """The verdict of a line, if it is one."""
     match = LINE.fullmatch(line)
     if not match:
@@ -59,11 +58,11 @@ def verdict_of(line: str) -> typing.Optional[Verdict]:
                    start=tuple((match["start"] or "").split()))
 
 
-def numbers(text: str) -> typing.Tuple[int, ...]:
+def numbers(text: str) -> tuple[int, ...]:
     """Numbers with blanks between them."""
     return tuple(map(int, text.split()))
 
 
-def verdicts_of(text: str) -> typing.List[Verdict]:
+def verdicts_of(text: str) -> list[Verdict]:
     """The verdicts of what `verify` prints, in the order of the ops."""
     return [verdict for verdict in map(verdict_of, text.splitlines()) if verdict is not None]

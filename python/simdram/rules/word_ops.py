@@ -6,7 +6,7 @@
 import operator
 import typing
 
-Numbers = typing.Union[int, typing.Tuple[int, int]]
+Numbers = int | tuple[int, int]
 
 
 class WordOp(typing.NamedTuple):

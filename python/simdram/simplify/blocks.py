@@ -22,7 +22,7 @@ class BlockWriter:
         self.words, self.components = made.order.written[group], made.order.computed[group]
         self.states = sorted(state for one in self.components for state in self.items.states_in(one))
         # each state's name, and whether it is kept inverted
-        self.kept: typing.Dict[int, typing.Tuple[str, int]] = {}
+        self.kept: dict[int, tuple[str, int]] = {}
 
     def is_own(self, state: int) -> bool:
         """Whether a state is the group's own, and not computed again."""
@@ -65,7 +65,7 @@ class BlockWriter:
                     return True
         return False
 
-    def _name_of(self, state: int) -> typing.Tuple[str, int]:
+    def _name_of(self, state: int) -> tuple[str, int]:
         """A state's name in the block, and whether it is kept inverted: as a result, or as the text had it."""
         made, now, last = self.made, self.graph.leaf(STATE, state), self.graph.leaf(LAST, state)
         for turn in (0, 1) if self.is_own(state) else ():
@@ -104,7 +104,7 @@ class BlockWriter:
         self.made.bit(lit & ~1)
         return True
 
-    def _lets(self, spelling: Spelling, numbers: typing.Iterable[int]) -> typing.List[typing.Tuple[str, Expr]]:
+    def _lets(self, spelling: Spelling, numbers: typing.Iterable[int]) -> list[tuple[str, Expr]]:
         """A let for each gate that is read more than once."""
         lets = []
         for number in numbers:

@@ -23,13 +23,13 @@ class Comparisons:
 
     def __init__(self, choice: typing.Sequence[int] = ()) -> None:
         self.choice = list(choice)
-        self.options: typing.List[typing.Tuple[str, typing.Tuple[str, ...]]] = []
+        self.options: list[tuple[str, tuple[str, ...]]] = []
         self.graph = Graph()
-        self.was: typing.Dict[int, Form] = {}
-        self.order: typing.Dict[int, Ordered] = {}
-        self.by_order: typing.Dict[Ordered, int] = {}
+        self.was: dict[int, Form] = {}
+        self.order: dict[int, Ordered] = {}
+        self.by_order: dict[Ordered, int] = {}
 
-    def choose(self, what: str, names: typing.Tuple[str, ...]) -> str:
+    def choose(self, what: str, names: tuple[str, ...]) -> str:
         """Which of several spellings is taken; the first where nothing is chosen."""
         at = len(self.options)
         self.options.append((what, names))
@@ -41,7 +41,7 @@ class Comparisons:
         self.was.setdefault(lit, Form(op, args))
         return lit
 
-    def was_op(self, lit: int, *ops: str) -> typing.Optional[typing.Tuple[int, ...]]:
+    def was_op(self, lit: int, *ops: str) -> tuple[int, ...] | None:
         """The arguments of the operation that made a literal, where it is one of these."""
         form = self.was.get(lit)
         return form.args if form and form.op in ops else None
@@ -65,7 +65,7 @@ class Comparisons:
         node = self.graph.node(lit)
         return node.kind == STATE and not lit & 1 and self.graph.states[node.ident] == StateRule("down", 1)
 
-    def of_top(self, lit: int) -> typing.Optional[int]:
+    def of_top(self, lit: int) -> int | None:
         """The word of which a word has the top bit, and 0 below, if it is such a one."""
         if lit & 1 and self.is_half(lit ^ 1):
             return 1
@@ -74,7 +74,7 @@ class Comparisons:
             return next((one for one, mask in (node.args, node.args[::-1]) if mask & 1 and self.is_half(mask ^ 1)), None)
         return None
 
-    def by_top(self, a: int, b: int) -> typing.Optional[int]:
+    def by_top(self, a: int, b: int) -> int | None:
         """a > b where that is a top bit: above all numbers whose top bit is 0, or a number beside the same without a sign."""
         if self.is_half(b) or self.was_op(b, "relu") == (a,):
             return self.top(a)
@@ -128,7 +128,7 @@ class Comparisons:
         pair = (order.y, order.x) if is_exchanged else (order.x, order.y)
         return getattr(self, f"do_{name}")(*pair) ^ flip
 
-    def _relation(self, a: int, b: int) -> typing.Tuple[int, int]:
+    def _relation(self, a: int, b: int) -> tuple[int, int]:
         """The two sides of an or: of x > y or (x = y and z), as of keys of two words, the second is x >= y and z."""
         for one, other in ((a, b), (b, a)):
             order, node = self.order.get(one), self.graph.node(other)

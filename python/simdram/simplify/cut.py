@@ -7,10 +7,9 @@ equal for the product. So what a comparison of whole texts cannot follow is ofte
 import dataclasses
 import typing
 
-from ..rules.op_tree import WORD, Block, Body, Op, Params, WordStatement
+from ..rules.op_tree import WORD, Body, Op, Params, WordStatement
 from ..rules.ops_rules import SOURCES
 from .op_limits import live
-from .statement_alone import renamed
 
 OPERATIONS = ("mul", "div", "rem", "divmod", "bitcount")
 COMMUTATIVE = ("mul",)
@@ -78,11 +77,10 @@ def with_reads(one: typing.Any, names: typing.Callable[[str], str]) -> typing.An
     """A statement that reads other names."""
     if isinstance(one, WordStatement):
         return dataclasses.replace(one, args=tuple(map(names, one.args)))
-    lets, assigns = (tuple((name, renamed(expr, names)) for name, expr in part) for part in (one.lets, one.assigns))
-    return Block(one.direction, one.states, lets, assigns)
+    return one.changed(lambda expr: expr.renamed(names))
 
 
-def cut(old: Op, new: Op) -> typing.Optional[typing.Tuple[str, str]]:
+def cut(old: Op, new: Op) -> tuple[str, str] | None:
     """The two texts, or nothing where they would need too many sources."""
     sides = [Side(old), Side(new)]
     used = sorted({side.key[name] for side in sides for name in side.read if name in side.key}) or [old.params[0][0]]

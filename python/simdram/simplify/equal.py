@@ -22,17 +22,17 @@ ALWAYS = (1, 2, 3, 4)
 class Equality(typing.NamedTuple):
     """What is known at each width, whether products and quotients were taken as unknowns, and whether the time was over."""
 
-    verdicts: typing.Dict[int, str]
+    verdicts: dict[int, str]
     is_cut: bool = False
     is_late: bool = False
 
     @property
-    def wrong(self) -> typing.List[int]:
+    def wrong(self) -> list[int]:
         """The widths at which the texts differ."""
         return [width for width, its in self.verdicts.items() if its == WRONG]
 
     @property
-    def unknown(self) -> typing.List[int]:
+    def unknown(self) -> list[int]:
         """The widths at which nothing is known."""
         return [width for width, its in self.verdicts.items() if its == UNKNOWN]
 
@@ -40,10 +40,10 @@ class Equality(typing.NamedTuple):
 class Comparer:
     """Compares texts by a program, up to a time in processor seconds."""
 
-    def __init__(self, program: str, until: float = float("inf"), stopped: typing.Optional[threading.Event] = None) -> None:
+    def __init__(self, program: str, until: float = float("inf"), stopped: threading.Event | None = None) -> None:
         self.program, self.until, self.stopped, self.is_late = program, until, stopped or threading.Event(), False
 
-    def _run(self, words: typing.Sequence[typing.Any], folder: str) -> typing.Optional[run_program.Ended]:
+    def _run(self, words: typing.Sequence[typing.Any], folder: str) -> run_program.Ended | None:
         """The program's end, or nothing where the time is over."""
         try:
             if spent() < self.until and not self.stopped.is_set():
@@ -55,7 +55,7 @@ class Comparer:
         self.is_late = True
         return None
 
-    def by_texts(self, meant: str, made: str, widths: typing.Sequence[int], program: bytes = b"") -> typing.Dict[int, str]:
+    def by_texts(self, meant: str, made: str, widths: typing.Sequence[int], program: bytes = b"") -> dict[int, str]:
         """Of one op in two texts, at each width whether the second, whose program file may be known, does what the first means."""
         with tempfile.TemporaryDirectory(prefix="simdram_") as folder:
             store(os.path.join(folder, "meant"), meant.encode())

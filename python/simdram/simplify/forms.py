@@ -11,54 +11,26 @@ CHAIN_LEAVES = 8
 
 
 class Forms(Sums):
-    """The rule of each word operation: `do_NAME`, from literals to a literal."""
+    """The rule of each word operation, from literals to a literal: that of `RULES`, or `do_NAME`."""
 
     def value(self, op: str, args: typing.Sequence[int]) -> int:
         """The value of an operation of one result."""
         if op in ("and", "or", "xor"):
             return self.of_two(op, *args)
-        return getattr(self, f"do_{op}")(*args)
+        return RULES[op](self, *args) if op in RULES else getattr(self, f"do_{op}")(*args)
 
-    def do_not(self, a: int) -> int:
-        """Inverted bits."""
-        return a ^ 1
-
-    def do_copy(self, a: int) -> int:
-        """The same literal."""
-        return a
-
-    def do_zero(self) -> int:
-        """The constant 0."""
-        return 0
-
-    def do_ones(self) -> int:
-        """The constant 1 at each position."""
-        return 1
-
-    def do_shl1(self, a: int) -> int:
-        """A state that holds the position before."""
-        return self.graph.form(self.graph.state("up", 0, lambda now: a), "shl1", a)
-
-    def do_shr1(self, a: int) -> int:
-        """A state that holds the position above."""
-        return self.graph.form(self.graph.state("down", 0, lambda now: a), "shr1", a)
+    def _shifted(self, op: str, direction: str, a: int) -> int:
+        """A state that holds the position before, or the one above."""
+        return self.graph.form(self.graph.state(direction, 0, lambda now: a), op, a)
 
     def _reduced(self, op: str, gate: str, start: int, a: int) -> int:
         graph = self.graph
         return graph.form(graph.last(graph.state("any", start, lambda now: graph.gate(gate, now, a))), op, a)
 
-    def do_and_red(self, a: int) -> int:
-        """Whether all bits are 1."""
-        return self._reduced("and_red", "and", 1, a)
-
     def do_or_red(self, a: int) -> int:
         """Whether some bit is 1."""
         found = self.by_top(a, 0)
         return found if found is not None else self._reduced("or_red", "or", 0, a)
-
-    def do_xor_red(self, a: int) -> int:
-        """The parity."""
-        return self._reduced("xor_red", "xor", 0, a)
 
     def do_if_else(self, a: int, b: int, s: int) -> int:
         """A choice; between two differences it is their amount, and between a sum and a difference it has one carry."""
@@ -66,14 +38,6 @@ class Forms(Sums):
             if found is not None:
                 return found
         return self.graph.gate("mux", s, a, b)
-
-    def do_min(self, a: int, b: int) -> int:
-        """The lesser."""
-        return self._extreme("min", a, b)
-
-    def do_max(self, a: int, b: int) -> int:
-        """The greater."""
-        return self._extreme("max", a, b)
 
     def _extreme(self, op: str, a: int, b: int) -> int:
         """The lesser or the greater: whole, a choice by a comparison or by bits of all comparisons, or from the top."""
@@ -104,14 +68,6 @@ class Forms(Sums):
             return graph.gate("and", graph.gate("or", a, is_greater), graph.gate("or", b, is_less))
         return graph.gate("or", graph.gate("and", a, is_less ^ 1), graph.gate("and", b, is_greater ^ 1))
 
-    def do_abs(self, a: int) -> int:
-        """The amount of a number in two's complement."""
-        return self._of_sign("abs", a)
-
-    def do_relu(self, a: int) -> int:
-        """The number, or 0 where its top bit is 1."""
-        return self._of_sign("relu", a)
-
     def _of_sign(self, op: str, a: int) -> int:
         """Whole, or a block by the top bit."""
         graph, before = self.graph, self.was.get(a)
@@ -140,8 +96,7 @@ class Forms(Sums):
             if lit >> 1 not in graph.cone(s) | graph.cone(x) | graph.cone(y):
                 graph.nodes[lit >> 1] = graph.node(lit)._replace(kind="mux", args=(s, x ^ lit & 1, y ^ lit & 1))
 
-    def _chain_by(self, lit: int, words: typing.List[int], picks: typing.Dict[int, int],
-                  k: int) -> typing.Optional[typing.Tuple[int, int, int, int]]:
+    def _chain_by(self, lit: int, words: list[int], picks: dict[int, int], k: int) -> tuple[int, int, int, int] | None:
         """The chain that ends with word k: its size, and its first choice."""
         graph = self.graph
         others = sorted((word for word in words if word != words[k]), key=lambda word: len(graph.leaves[picks[word] >> 1]))
@@ -153,6 +108,17 @@ class Forms(Sums):
             return None
         return sum(len(graph.cone(picks[word])) for word in others), picks[first], 2 * first, inner
 
-    def _with_leaves(self, lit: int, values: typing.Dict[int, int]) -> int:
+    def _with_leaves(self, lit: int, values: dict[int, int]) -> int:
         """The literal with leaves replaced."""
         return replaced(self.graph, lit, values, {})
+
+
+# of each operation with a short rule, its value
+RULES: dict[str, typing.Callable[..., int]] = {
+    "not": lambda _, a: a ^ 1, "copy": lambda _, a: a, "zero": lambda _: 0, "ones": lambda _: 1,
+    "shl1": lambda self, a: self._shifted("shl1", "up", a), "shr1": lambda self, a: self._shifted("shr1", "down", a),
+    "and_red": lambda self, a: self._reduced("and_red", "and", 1, a), "xor_red": lambda self, a: self._reduced("xor_red", "xor", 0, a),
+    "min": lambda self, a, b: self._extreme("min", a, b), "max": lambda self, a, b: self._extreme("max", a, b),
+    "abs": lambda self, a: self._of_sign("abs", a), "relu": lambda self, a: self._of_sign("relu", a),
+    "div": lambda self, a, b: self.divide(a, b)[0], "rem": lambda self, a, b: self.divide(a, b)[1],
+}

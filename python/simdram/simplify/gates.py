@@ -8,18 +8,52 @@ import typing
 
 from ..graphs.mig import normal_majority
 from ..rules.word_ops import GATE_VALUES
-from .truth_tables import LEAVES, Leaves, full, smallest, spread
 
+# truth tables of at most so many leaves are whole numbers: bit i is the value where leaf k is bit k of i
+LEAVES = 8
+Leaves = tuple[int, ...]
+# the rows in which each of so many leaves is 1
+ROWS = [[sum(1 << i for i in range(1 << count) if i >> k & 1) for k in range(count)] for count in range(LEAVES + 1)]
 # the kinds of leaves: a source's word, a bit, a state, its last value, and a result of an operation that stays whole
 WORD, BIT, STATE, LAST, WHOLE, CONST = "word", "bit", "state", "last", "whole", "const"
 LEAF_KINDS = (WORD, BIT, STATE, LAST, WHOLE)
+
+
+def full(count: int) -> int:
+    """The table of the constant 1."""
+    return (1 << (1 << count)) - 1
+
+
+def spread(table: int, have: Leaves, want: Leaves) -> int:
+    """A table over some leaves, over more leaves."""
+    if have == want:
+        return table
+    places, found = [want.index(leaf) for leaf in have], 0
+    for i in range(1 << len(want)):
+        row = sum((i >> place & 1) << k for k, place in enumerate(places))
+        found |= (table >> row & 1) << i
+    return found
+
+
+def without(table: int, count: int, k: int) -> int:
+    """A table where leaf k is 0, over the others."""
+    return sum((table >> (i >> k << (k + 1) | i & ((1 << k) - 1)) & 1) << i for i in range(1 << (count - 1)))
+
+
+def smallest(table: int, leaves: Leaves) -> tuple[int, Leaves]:
+    """The table over those leaves that make a difference."""
+    for k in range(len(leaves) - 1, -1, -1):
+        ones = ROWS[len(leaves)][k]
+        if (table & ones) >> (1 << k) == table & ~ones & full(len(leaves)):
+            table, leaves = without(table, len(leaves), k), leaves[:k] + leaves[k + 1:]
+    return table, leaves
 
 
 class Node(typing.NamedTuple):
     """A leaf with what it is, or a gate with its arguments."""
 
     kind: str
-    args: typing.Tuple[int, ...] = ()
+    args: tuple[int, ...] = ()
     ident: typing.Any = None
     place: int = 0
 
@@ -32,7 +66,7 @@ class Form(typing.NamedTuple):
     """An operation on literals."""
 
     op: str
-    args: typing.Tuple[int, ...]
+    args: tuple[int, ...]
 
 
 class StateRule(typing.NamedTuple):
@@ -42,32 +76,30 @@ class StateRule(typing.NamedTuple):
     next: int
 
 
-Normal = typing.Union[int, typing.Tuple[typing.Tuple[int, ...], int]]
+Normal = int | tuple[tuple[int, ...], int]
 
 
 class Graph:
     """Nodes, states and whole operations, each once."""
 
     def __init__(self) -> None:
-        self.nodes: typing.List[Node] = [Node(CONST)]
+        self.nodes: list[Node] = [Node(CONST)]
         # of each node: the leaves that make a difference (or all, where there are many) and the table over them,
         # and the leaves that its gates reach
-        self.support: typing.List[Leaves] = [()]
-        self.table: typing.List[typing.Optional[int]] = [0]
-        self.leaves: typing.List[typing.FrozenSet[int]] = [frozenset()]
-        self.by_leaf: typing.Dict[tuple, int] = {}
-        self.by_table: typing.Dict[tuple, int] = {((), 0): 0}
-        self.by_gate: typing.Dict[tuple, int] = {}
-        self.states: typing.List[StateRule] = []
-        self.wholes: typing.List[Form] = []
-        self.forms: typing.Dict[int, typing.List[Form]] = {}
+        self.support: list[Leaves] = [()]
+        self.table: list[int | None] = [0]
+        self.leaves: list[frozenset[int]] = [frozenset()]
+        self.by_leaf: dict[tuple, int] = {}
+        self.by_table: dict[tuple, int] = {((), 0): 0}
+        self.by_gate: dict[tuple, int] = {}
+        self.states: list[StateRule] = []
+        self.wholes: list[Form] = []
+        self.forms: dict[int, list[Form]] = {}
 
     def node(self, lit: int) -> Node:
-        """The node of a literal."""
         return self.nodes[lit >> 1]
 
     def leaf(self, kind: str, ident: typing.Any, place: int = 0) -> int:
-        """The literal of a leaf."""
         key = (kind, ident, place)
         if key not in self.by_leaf:
             number = self._new(Node(kind, (), ident, place))
@@ -138,7 +170,7 @@ class Graph:
                 return self.gate("xor", y, self.gate("and", turn, k))
         return (s, a, b), 0
 
-    def _made(self, kind: str, args: typing.Tuple[int, ...]) -> int:
+    def _made(self, kind: str, args: tuple[int, ...]) -> int:
         """The literal of a gate in its normal form: one that stands, where it has the same truth table."""
         leaves = tuple(sorted(set().union(*(self.support[lit >> 1] for lit in args))))
         if len(leaves) > LEAVES:
@@ -193,7 +225,7 @@ class Graph:
             found.append(Form(op, args))
         return lit
 
-    def cone(self, lit: int, seen: typing.Optional[typing.Set[int]] = None) -> typing.Set[int]:
+    def cone(self, lit: int, seen: set[int] | None = None) -> set[int]:
         """The nodes that a literal reaches through gates."""
         seen = set() if seen is None else seen
         if lit >> 1 not in seen:

@@ -23,15 +23,15 @@ class Items:
 
     def __init__(self, lowered: Lowered) -> None:
         self.lowered, self.graph = lowered, lowered.graph
-        self.needed: typing.Set[int] = set()
-        self.read_last: typing.Set[int] = set()
-        self.wholes: typing.Dict[int, typing.Set[int]] = {}
+        self.needed: set[int] = set()
+        self.read_last: set[int] = set()
+        self.wholes: dict[int, set[int]] = {}
         self.words = list(dict.fromkeys(self._find()))
-        self.component: typing.Dict[int, int] = {}
-        self.components: typing.List[typing.FrozenSet[int]] = []
+        self.component: dict[int, int] = {}
+        self.components: list[frozenset[int]] = []
         self._join()
         # the literals that are read as they are, and not only inverted
-        self.read: typing.Set[int] = set()
+        self.read: set[int] = set()
         self.optional = self._optional()
 
     def rule(self, state: int) -> int:
@@ -76,9 +76,9 @@ class Items:
                 self.components.append(joined)
                 self.component.update((one, len(self.components) - 1) for one in joined)
 
-    def _optional(self) -> typing.List[int]:
+    def _optional(self) -> list[int]:
         """The words of the text that are on the way to a result."""
-        reached: typing.Set[int] = set()
+        reached: set[int] = set()
         roots = [*self.words, *(lit for _, _, lit in self.lowered.results), *map(self.rule, self.needed)]
         for lit in roots:
             self.graph.cone(lit, reached)
@@ -86,7 +86,7 @@ class Items:
         return [lit for lit in dict.fromkeys(self.lowered.optional)
                 if not {lit, lit ^ 1}.intersection(self.words) and lit >> 1 in reached and self.needs_row(lit)]
 
-    def _note_read(self, roots: typing.List[int]) -> None:
+    def _note_read(self, roots: list[int]) -> None:
         """Notes which literals are read: an inverted and is an or of the opposites."""
         todo = list(roots)
         while todo:
@@ -100,8 +100,7 @@ class Items:
         """Whether a literal is of bits and last values alone."""
         return lit > 1 and all(self.graph.nodes[leaf].kind in ("bit", LAST) for leaf in self.graph.leaves[lit >> 1])
 
-    def states_in(self, number: int) -> typing.FrozenSet[int]:
-        """The states of a component."""
+    def states_in(self, number: int) -> frozenset[int]:
         return self.components[number]
 
     def is_read_last(self, number: int) -> bool:

@@ -17,8 +17,8 @@ class Lowered(Forms):
         super().__init__(choice)
         self.op = op
         self.values = {name: (kind, self.graph.leaf(WORD_LEAF if kind == WORD else BIT_LEAF, name)) for name, kind in op.params}
-        self.named: typing.Dict[int, str] = {}
-        self.optional: typing.List[int] = []
+        self.named: dict[int, str] = {}
+        self.optional: list[int] = []
         for one in op.body:
             if isinstance(one, WordStatement):
                 self._word(one)
@@ -99,7 +99,7 @@ class Lowered(Forms):
             return chosen
         return self.graph.gate(expr.gate, *(self._expr(arg, inside) for arg in expr.args))
 
-    def _choice(self, expr: Expr, inside: typing.Mapping[str, int]) -> typing.Optional[int]:
+    def _choice(self, expr: Expr, inside: typing.Mapping[str, int]) -> int | None:
         """A choice that is written as or(and(s, x), and(not(s), y))."""
         first, second = expr.args
         if not first.gate == second.gate == "and":

@@ -33,15 +33,15 @@ class TimeOver(Exception):
 class Compiled(typing.NamedTuple):
     """Of a text the costs of its ops, and its program file."""
 
-    costs: typing.List[Costs]
+    costs: list[Costs]
     program: bytes
 
 
 class Parts(typing.NamedTuple):
     """A body by its statements, a low guess at a position of each block, and how many words and bits it defines in scratch."""
 
-    statements: typing.List[Alone]
-    guesses: typing.List[float]
+    statements: list[Alone]
+    guesses: list[float]
     words: int
     bits: int
 
@@ -49,16 +49,15 @@ class Parts(typing.NamedTuple):
 class Measured:
     """Costs of a program's compiler at widths, up to a time; what is measured once is kept."""
 
-    def __init__(self, program: str, widths: typing.Sequence[int], workers: int = 1,
-                 cache: typing.Optional[StatementCache] = None) -> None:
+    def __init__(self, program: str, widths: typing.Sequence[int], workers: int = 1, cache: StatementCache | None = None) -> None:
         self.program, self.widths, self.workers = program, list(widths), workers
         # of each statement its own commands and scratch rows at each width; None where it is refused
-        self.kept: typing.Dict[Alone, typing.Optional[Costs]] = {}
+        self.kept: dict[Alone, Costs | None] = {}
         self.cache = cache.kept if cache else {}
         self.until = float("inf")
         self.stopped = threading.Event()
         # what this search has asked for: its guesses do not depend on what others have measured
-        self.asked: typing.Set[Alone] = set()
+        self.asked: set[Alone] = set()
 
     def until_then(self, until: float) -> "Measured":
         """The same, with what is kept, up to another time, for another search."""
@@ -86,18 +85,18 @@ class Measured:
         if self.stopped.is_set() or spent() >= self.until:
             raise TimeOver
 
-    def of_text(self, text: str, also: typing.Iterable[int] = ()) -> typing.Optional[typing.List[Costs]]:
+    def of_text(self, text: str, also: typing.Iterable[int] = ()) -> list[Costs] | None:
         """Of each op of a text its costs; nothing where the text is refused or an op is stuck."""
         found = self.compiled(text, also)
         return found.costs if found else None
 
-    def compiled(self, text: str, also: typing.Iterable[int] = ()) -> typing.Optional[Compiled]:
+    def compiled(self, text: str, also: typing.Iterable[int] = ()) -> Compiled | None:
         """The program file of a text and the costs of its ops; nothing where the text is refused or an op is stuck."""
         with tempfile.TemporaryDirectory(prefix="simdram_") as folder:
             store(os.path.join(folder, "ops"), text.encode())
             if self.run(["compile", "ops", "prog"], folder).status:
                 return None
-            found: typing.List[Costs] = []
+            found: list[Costs] = []
             for width in dict.fromkeys([*self.widths, *also]):
                 lines = self.run(["cost", "prog", width], folder).out.splitlines()
                 costs = [cost_of(line) for line in lines]
@@ -110,13 +109,13 @@ class Measured:
 
     # statements
 
-    def of_parts(self, bodies: typing.Sequence[Parts]) -> typing.List[typing.Optional[Costs]]:
+    def of_parts(self, bodies: typing.Sequence[Parts]) -> list[Costs | None]:
         """The costs of bodies; nothing where a statement is refused."""
         self._measure([one for parts in bodies for one in parts.statements])
         self.asked.update(one for parts in bodies for one in parts.statements)
         return [self.guess(parts) for parts in bodies]
 
-    def unknown(self, parts: Parts) -> typing.Set[Alone]:
+    def unknown(self, parts: Parts) -> set[Alone]:
         """The statements of a body that this search has not asked for."""
         return set(parts.statements) - self.asked
 
@@ -131,7 +130,7 @@ class Measured:
             guesses.append(guessed(one, kinds))
         return Parts(found, guesses, counts[WORD], counts[BIT])
 
-    def guess(self, parts: Parts) -> typing.Optional[Costs]:
+    def guess(self, parts: Parts) -> Costs | None:
         """The costs of a body: the sum over its statements, which share scratch rows; what was not measured is guessed, low.
 
         Nothing where a statement is refused.

@@ -24,7 +24,7 @@ def possible(items: Items, plan: Plan) -> int:
 # starts
 
 
-def starts(items: Items) -> typing.List[Plan]:
+def starts(items: Items) -> list[Plan]:
     """The text as it was, only what must stand in rows, and all merged that can be."""
     base = [frozenset([Item(STATES, one)]) for one in range(len(items.components))]
     base += [frozenset([Item(OPERATION, one)]) for one in sorted(items.wholes)]
@@ -61,7 +61,6 @@ def _joined(plan: Plan, one: Item, other: Item) -> Plan:
 
 
 def merged(items: Items, plan: Plan) -> Plan:
-    """All merged that can be."""
     while True:
         least = possible(items, plan)
         trial = next((one for one in merges(plan) if possible(items, one) >= max(least, TOO_GREAT)), None)
@@ -81,7 +80,7 @@ def merges(plan: Plan) -> typing.Iterator[Plan]:
             yield plan.with_groups([*(group for k, group in enumerate(groups) if k not in (i, j)), groups[i] | groups[j]])
 
 
-def _with(groups: typing.Sequence[Group], at: int, group: Group) -> typing.List[Group]:
+def _with(groups: typing.Sequence[Group], at: int, group: Group) -> list[Group]:
     return [group if k == at else its for k, its in enumerate(groups)]
 
 
@@ -127,13 +126,13 @@ def again(items: Items, plan: Plan) -> typing.Iterator[Plan]:
             yield now.with_groups([*without, frozenset([item])])
 
 
-def moves(items: Items, plan: Plan) -> typing.List[Plan]:
+def moves(items: Items, plan: Plan) -> list[Plan]:
     """The plans next to a plan, each once."""
     found = itertools.chain(merges(plan), splits(plan), rows(items, plan), again(items, plan))
     return list({one.key: one for one in found}.values())
 
 
-def spellings(items: Items, plan: Plan, numbers: typing.Iterable[int]) -> typing.List[Plan]:
+def spellings(items: Items, plan: Plan, numbers: typing.Iterable[int]) -> list[Plan]:
     """The same groups written otherwise."""
     found, numbers = [], list(numbers)
     for k, group in enumerate(plan.groups):

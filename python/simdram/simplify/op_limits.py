@@ -29,7 +29,7 @@ def fits(body: Body) -> bool:
     return len(body) <= STATEMENTS and all(isinstance(one, WordStatement) or block_fits(one) for one in body)
 
 
-def needed_in(block: Block, wanted: typing.Container[str]) -> typing.Set[str]:
+def needed_in(block: Block, wanted: typing.Container[str]) -> set[str]:
     """Which of a block's own names the wanted ones need."""
     lets, states, nexts = dict(block.lets), dict(block.states), dict(block.assigns)
     todo, needed = [name for name in [*states, *nexts] if name in wanted], set()
@@ -42,7 +42,7 @@ def needed_in(block: Block, wanted: typing.Container[str]) -> typing.Set[str]:
     return needed
 
 
-def live_block(block: Block, wanted: typing.Set[str]) -> typing.Optional[Block]:
+def live_block(block: Block, wanted: set[str]) -> Block | None:
     """A block without what nothing reads; the names that it reads are wanted from then on."""
     needed = needed_in(block, wanted)
     if not needed:

@@ -21,7 +21,7 @@ class Outcome:
     """An op, the text that was found for it, and what is known of both."""
 
     simpler: Simpler
-    equality: typing.Optional[Equality] = None
+    equality: Equality | None = None
     is_unvalidated: bool = False
 
     @property

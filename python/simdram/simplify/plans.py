@@ -6,7 +6,7 @@ import typing
 from .gates import CONST, LAST, STATE, WHOLE
 from .items import OPERATION, ROW, STATES, Item, Items
 
-Group = typing.FrozenSet[Item]
+Group = frozenset[Item]
 
 
 class NoOp(Exception):
@@ -22,11 +22,11 @@ class Plan:
     statement would do.
     """
 
-    groups: typing.Tuple[Group, ...]
-    again: typing.FrozenSet[int] = frozenset()
-    spelling: typing.Tuple[typing.Tuple[int, int], ...] = ()
-    turned: typing.FrozenSet[int] = frozenset()
-    blocks: typing.FrozenSet[int] = frozenset()
+    groups: tuple[Group, ...]
+    again: frozenset[int] = frozenset()
+    spelling: tuple[tuple[int, int], ...] = ()
+    turned: frozenset[int] = frozenset()
+    blocks: frozenset[int] = frozenset()
 
     def with_groups(self, groups: typing.Iterable[Group]) -> "Plan":
         """The same with other groups; an empty one goes."""
@@ -63,9 +63,9 @@ class Order:
             if not is_whole(plan.groups[k]):
                 Demand(self, k).settle()
 
-    def _edges(self) -> typing.Dict[int, typing.Set[int]]:
+    def _edges(self) -> dict[int, set[int]]:
         """Which groups each group needs before it."""
-        edges: typing.Dict[int, typing.Set[int]] = {k: set() for k in range(len(self.plan.groups))}
+        edges: dict[int, set[int]] = {k: set() for k in range(len(self.plan.groups))}
         for item, k in self.where.items():
             for other, is_strict in Needs(self, item).found:
                 if other not in self.where or is_strict and self.where[other] == k:
@@ -75,8 +75,8 @@ class Order:
         return edges
 
     @staticmethod
-    def _sorted(edges: typing.Dict[int, typing.Set[int]]) -> typing.List[int]:
-        order: typing.List[int] = []
+    def _sorted(edges: dict[int, set[int]]) -> list[int]:
+        order: list[int] = []
         while len(order) < len(edges):
             ready = next((k for k in edges if k not in order and edges[k].issubset(order)), None)
             if ready is None:
@@ -90,8 +90,8 @@ class Needs:
 
     def __init__(self, order: Order, item: Item) -> None:
         self.of, self.items, self.graph, self.item = order, order.items, order.graph, item
-        self.found: typing.Set[typing.Tuple[Item, bool]] = set()
-        self.seen: typing.Set[int] = set()
+        self.found: set[tuple[Item, bool]] = set()
+        self.seen: set[int] = set()
         if item.kind == OPERATION:
             for arg in self.graph.wholes[item.number].args:
                 self._argument(arg)
@@ -139,7 +139,7 @@ class Demand:
 
     def __init__(self, order: Order, group: int) -> None:
         self.of, self.items, self.graph, self.group = order, order.items, order.graph, group
-        self.seen: typing.Set[int] = set()
+        self.seen: set[int] = set()
 
     def settle(self) -> None:
         """Finds all that the group computes and that earlier groups write for it."""
@@ -156,7 +156,7 @@ class Demand:
         for state in self.items.states_in(component):
             self._go(self.items.rule(state))
 
-    def _other_row(self, number: int) -> typing.Optional[int]:
+    def _other_row(self, number: int) -> int | None:
         """The other group in which a node stands in a row."""
         item = self.of.row_of.get(number)
         return self.of.where[item] if item is not None and self.of.where[item] != self.group else None

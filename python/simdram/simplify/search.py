@@ -17,7 +17,7 @@ ROUNDS = 2
 DRAWN = 3
 # a start whose low guess is so many times as dear as the best is not climbed from
 FAR = 1.15
-Score = typing.Tuple[float, ...]
+Score = tuple[float, ...]
 WORST: Score = (float("inf"),)
 # what is added to the score of a text for each width at which it is dearer
 DEARER = 1000.0
@@ -27,8 +27,8 @@ class Found(typing.NamedTuple):
     """A plan with its body and its score."""
 
     score: Score
-    body: typing.Optional[Body]
-    plan: typing.Optional[Plan]
+    body: Body | None
+    plan: Plan | None
 
 
 class Candidate(typing.NamedTuple):
@@ -71,7 +71,7 @@ class Search:
         self.op, self.measured, self.before, self.keeps_rows, self.end = op, measured, before, keeps_rows, end
         self.best = Found(WORST, None, None)
 
-    def score(self, costs: typing.Optional[Costs]) -> Score:
+    def score(self, costs: Costs | None) -> Score:
         """How dear a text is: its commands beside those before, then its rows."""
         if costs is None:
             return WORST
@@ -80,7 +80,7 @@ class Search:
         ratio = sum(now.commands / max(old.commands, 1) for now, old in pairs)
         return DEARER * dearer + ratio, sum(now.rows for now, _ in pairs)
 
-    def candidates(self, items: Items, plans: typing.Iterable[Plan]) -> typing.List[Candidate]:
+    def candidates(self, items: Items, plans: typing.Iterable[Plan]) -> list[Candidate]:
         """The plans that are ops, those first that are guessed to be the least."""
         found = []
         for plan in plans:
@@ -107,7 +107,7 @@ class Search:
                 return found
         return best
 
-    def _some(self, left: typing.List[Candidate]) -> typing.Tuple[typing.List[Candidate], typing.List[Candidate]]:
+    def _some(self, left: list[Candidate]) -> tuple[list[Candidate], list[Candidate]]:
         """The first candidates with a few new statements, and the others."""
         left, new, count = sorted(left, key=lambda one: one.guess), set(), 0
         while count < len(left) and len(new) < AT_ONCE:
@@ -115,7 +115,7 @@ class Search:
             count += 1
         return left[:count], left[count:]
 
-    def _measured(self, some: typing.Sequence[Candidate]) -> typing.List[Found]:
+    def _measured(self, some: typing.Sequence[Candidate]) -> list[Found]:
         """Candidates, measured as many at once as there are workers; the best so far is known after each."""
         found = []
         for k in range(0, len(some), self.measured.workers):
@@ -143,7 +143,7 @@ class Search:
             best = found
         return best
 
-    def attempt(self, choice: typing.Sequence[int]) -> typing.Tuple[Found, Lowered]:
+    def attempt(self, choice: typing.Sequence[int]) -> tuple[Found, Lowered]:
         """The best plan with some forms of the operations; a start that is far from the best so far is left out."""
         lowered = Lowered(self.op, choice)
         items, best = Items(lowered), Found(WORST, None, None)
@@ -171,8 +171,7 @@ class Search:
                 break
         self.spelled(Items(lowered), best)
 
-    def _better(self, trial: typing.List[int], best: Found, lowered: Lowered,
-                choice: typing.List[int]) -> typing.Tuple[Found, Lowered, typing.List[int]]:
+    def _better(self, trial: list[int], best: Found, lowered: Lowered, choice: list[int]) -> tuple[Found, Lowered, list[int]]:
         """The trial where it is better, else what was found before."""
         found, other = self.attempt(trial)
         if found.score >= best.score:
@@ -192,7 +191,7 @@ class Search:
             return Simpler(self.op, self.best.body, self.before, found.costs[0], is_whole, found.program)
         return Simpler(self.op, self.op.body, self.before, self.before, is_whole)
 
-    def _whole(self, body: Body) -> typing.Optional[Compiled]:
+    def _whole(self, body: Body) -> Compiled | None:
         """A body compiled as a whole, if that can be done in time."""
         try:
             return self.measured.until_then(self.end).compiled(self.op.text(body))
@@ -200,7 +199,7 @@ class Search:
             return None
 
 
-def body_of(items: Items, plan: Plan) -> typing.Optional[Body]:
+def body_of(items: Items, plan: Plan) -> Body | None:
     """The statements of a plan, or nothing where it is no op."""
     try:
         return written(items, plan)

@@ -28,14 +28,14 @@ ENDED = 0.97
 class Options:
     """At which widths an op must not be dearer and is compared, in how many processor seconds, and what else."""
 
-    widths: typing.Tuple[int, ...] = (4, 8, 16, 32)
+    widths: tuple[int, ...] = (4, 8, 16, 32)
     seconds: float = SECONDS
     keeps_rows: bool = False
     is_unvalidated: bool = False
-    compared: typing.Tuple[int, ...] = ALWAYS
+    compared: tuple[int, ...] = ALWAYS
 
     @property
-    def all_compared(self) -> typing.List[int]:
+    def all_compared(self) -> list[int]:
         """The widths at which texts are compared."""
         return sorted({*self.compared, *self.widths})
 
@@ -63,7 +63,7 @@ class Simplifier:
         self.end = self.start + ENDED * options.seconds
         self.stopped = threading.Event()
 
-    def outcomes(self, data: bytes, what: str = "") -> typing.List[Outcome]:
+    def outcomes(self, data: bytes, what: str = "") -> list[Outcome]:
         """What becomes of each op of a text that the program accepts.
 
         Each op is searched and compared in its share of the time; what was not compared in it is compared in the time that is left.
@@ -75,11 +75,11 @@ class Simplifier:
             found[k] = one
         return found
 
-    def searched(self, data: bytes, what: str = "") -> typing.List[Simpler]:
+    def searched(self, data: bytes, what: str = "") -> list[Simpler]:
         """The best text that was found for each op, not compared yet."""
         return self._of_all(data, what, lambda search, share: search.run())
 
-    def _of_all(self, data: bytes, what: str, work: typing.Callable[[Search, float], typing.Any]) -> typing.List[typing.Any]:
+    def _of_all(self, data: bytes, what: str, work: typing.Callable[[Search, float], typing.Any]) -> list[typing.Any]:
         """The results of a work on the search of each op, which has a share of the time."""
         ops = read_ops(data)
         if not ops:
@@ -91,7 +91,7 @@ class Simplifier:
         before = self._before(measured.until_then(self.end), data)
         shares = Shares(self.end, len(ops))
 
-        def worked(pair: typing.Tuple[Op, Costs]) -> typing.Any:
+        def worked(pair: tuple[Op, Costs]) -> typing.Any:
             share, now = shares.next(), spent()
             mine = measured.until_then(now + SEARCHED * (share - now))
             return work(Search(pair[0], mine, pair[1], self.options.keeps_rows, share), share)
@@ -102,7 +102,7 @@ class Simplifier:
             cache.save()
 
     def _on_all(self, work: typing.Callable[[typing.Any], typing.Any], items: typing.Sequence[typing.Any],
-                what: str = "") -> typing.List[typing.Any]:
+                what: str = "") -> list[typing.Any]:
         """The results of all items; a fault, or Ctrl-C, stops all works at once."""
         return in_parallel(work, items, what, self.stopped.set)
 
@@ -118,7 +118,7 @@ class Simplifier:
         equality = Comparer(self.program, until, self.stopped).equal(found.op, new, self.options.all_compared, found.program)
         return Outcome(found, equality, self.options.is_unvalidated)
 
-    def _before(self, measured: Measured, data: bytes) -> typing.List[Costs]:
+    def _before(self, measured: Measured, data: bytes) -> list[Costs]:
         """The costs of the ops as they are."""
         try:
             found = measured.of_text(data.decode("utf-8", "replace"))

@@ -30,9 +30,7 @@ FAULTY = 1
 
 
 def parser() -> argparse.ArgumentParser:
-    made = tool_parser("simplify", __name__)
-    made.add_argument("ops", metavar="OPS")
-    made.add_argument("new", metavar="NEW", nargs="?")
+    made = tool_parser("simplify", __name__, "OPS", "[NEW]")
     made.add_argument("--widths", default="4,8,16,32", metavar="N,N,..", help="where no op is dearer, and is compared")
     made.add_argument("--seconds", type=float, default=SECONDS, metavar="S",
                       help="in how many processor seconds all ops are done, this tool's and its calls' together; 40 unless given")

@@ -18,16 +18,16 @@ class Spelling:
     """
 
     def __init__(self, items: Items, number: int, inside: typing.Mapping[int, str],
-                 reading: typing.Callable[[int], typing.Optional[Expr]]) -> None:
+                 reading: typing.Callable[[int], Expr | None]) -> None:
         self.items, self.graph, self.inside, self.reading = items, items.graph, inside, reading
         self.style, self.random = number % STYLES, random.Random(number) if number >= STYLES else None
-        self.let_names: typing.Dict[int, str] = {}
+        self.let_names: dict[int, str] = {}
 
     def is_known(self, lit: int) -> bool:
         """Whether a literal is a constant or a name."""
         return lit < 2 or lit in self.inside or lit ^ 1 in self.inside or self.reading(lit) is not None
 
-    def named(self, lit: int) -> typing.Optional[Expr]:
+    def named(self, lit: int) -> Expr | None:
         """A constant or a name, inverted where its opposite has the name."""
         if lit < 2:
             return gate(str(lit))
@@ -48,7 +48,7 @@ class Spelling:
         node = self.graph.node(lit)
         return getattr(self, f"_{node.kind}")(lit, node)
 
-    def _drawn(self, args: typing.List[Expr]) -> typing.List[Expr]:
+    def _drawn(self, args: list[Expr]) -> list[Expr]:
         """The arguments in the order that is drawn."""
         if self.random:
             self.random.shuffle(args)
@@ -92,13 +92,13 @@ class Spelling:
 
 
 def uses(graph: Graph, roots: typing.Iterable[int], spelling: Spelling,
-         on_bits: typing.Callable[[int], bool]) -> typing.Tuple[typing.Dict[int, int], typing.List[int]]:
+         on_bits: typing.Callable[[int], bool]) -> tuple[dict[int, int], list[int]]:
     """How often each gate is read, and the gates in an order in which they can be written.
 
     `on_bits` deals with what is of bits alone, and tells whether it did.
     """
-    counts: typing.Dict[int, int] = {}
-    order: typing.List[int] = []
+    counts: dict[int, int] = {}
+    order: list[int] = []
 
     def go(lit: int) -> None:
         if spelling.is_known(lit) or on_bits(lit):

@@ -2,7 +2,7 @@
 
 import typing
 
-from ..rules.op_tree import BIT, WORD, Block, Expr, Statement, WordStatement, body_text, made_by, read
+from ..rules.op_tree import BIT, WORD, Block, Expr, Statement, WordStatement, body_text, made_by
 
 # what a word by `zero` and a bit by `not` take in commands
 ZERO, NOT_BIT = 1, 2
@@ -16,15 +16,15 @@ class Cost(typing.NamedTuple):
     rows: int
 
 
-Costs = typing.Dict[int, Cost]
+Costs = dict[int, Cost]
 
 
 class Alone(typing.NamedTuple):
     """A statement with names by their places: its text, and the kinds of what it reads and of what it defines."""
 
     text: str
-    reads: typing.Tuple[str, ...]
-    makes: typing.Tuple[str, ...]
+    reads: tuple[str, ...]
+    makes: tuple[str, ...]
 
     @property
     def key(self) -> str:
@@ -53,18 +53,13 @@ class Alone(typing.NamedTuple):
         return Cost(cost.commands - (self.words + 1) * ZERO * n - self.bits * NOT_BIT, cost.rows - self.words * n - self.bits - made)
 
 
-def renamed(expr: Expr, names: typing.Callable[[str], str]) -> Expr:
-    """An expression with other names."""
-    return read(names(expr.name)) if expr.gate == "read" else Expr(expr.gate, tuple(renamed(arg, names) for arg in expr.args))
-
-
 def operands(expr: Expr, gate: str) -> typing.Iterator[Expr]:
     """The operands of nested gates of one kind."""
     for arg in expr.args:
         yield from operands(arg, gate) if arg.gate == gate else (arg,)
 
 
-def rank(expr: Expr) -> typing.Tuple[bool, str]:
+def rank(expr: Expr) -> tuple[bool, str]:
     """Where an operand stands among others: complements come last, so that a sum of a carry kept inverted takes the fewest."""
     return expr.gate == "not", str(expr)
 
@@ -81,16 +76,16 @@ def in_order(expr: Expr) -> Expr:
     return expr._replace(args=tuple(sorted(args, key=rank)) if expr.gate in SYMMETRIC else args)
 
 
-Pairs = typing.Tuple[typing.Tuple[str, Expr], ...]
+Pairs = tuple[tuple[str, Expr], ...]
 
 
-def by_places(one: Statement, names: typing.Dict[str, str]) -> Statement:
+def by_places(one: Statement, names: dict[str, str]) -> Statement:
     """A statement with names by the places where they first stand; `names` gets them."""
     def again(name: str) -> str:
         return names.setdefault(name, f"v{len(names)}")
 
     def of_pairs(pairs: Pairs) -> Pairs:
-        found = [(name, renamed(expr, again)) for name, expr in pairs]
+        found = [(name, expr.renamed(again)) for name, expr in pairs]
         return tuple((again(name), expr) for name, expr in found)
 
     if isinstance(one, WordStatement):
@@ -100,33 +95,16 @@ def by_places(one: Statement, names: typing.Dict[str, str]) -> Statement:
     return Block(one.direction, tuple((again(name), start) for name, start in one.states), lets, assigns)
 
 
-def ordered(one: Statement) -> Statement:
-    """A statement with its gates in one order."""
-    if isinstance(one, WordStatement):
-        return one
-    lets, assigns = (tuple((name, in_order(expr)) for name, expr in pairs) for pairs in (one.lets, one.assigns))
-    return Block(one.direction, one.states, lets, assigns)
-
-
 def normal(one: Statement) -> Statement:
     """A statement as it is measured, with its own names."""
-    names: typing.Dict[str, str] = {}
-    found = ordered(by_places(one, names))
+    names: dict[str, str] = {}
+    found = by_places(one, names)
     own = {place: name for name, place in names.items()}
-    return with_names(found, own.__getitem__)
-
-
-def with_names(one: Statement, names: typing.Callable[[str], str]) -> Statement:
-    """A statement with other names."""
-    if isinstance(one, WordStatement):
-        return WordStatement(tuple(map(names, one.targets)), one.op, tuple(map(names, one.args)))
-    lets, assigns = (tuple((names(name), renamed(expr, names)) for name, expr in pairs) for pairs in (one.lets, one.assigns))
-    return Block(one.direction, tuple((names(name), start) for name, start in one.states), lets, assigns)
+    return (found.changed(in_order) if isinstance(found, Block) else found).renamed(own.__getitem__)
 
 
 def alone(one: Statement, kinds: typing.Mapping[str, str]) -> Alone:
-    """A statement by itself."""
-    names: typing.Dict[str, str] = {}
+    names: dict[str, str] = {}
     plain = by_places(normal(one), names)
     made = dict(made_by(one, kinds))
     own = set(made) if isinstance(one, WordStatement) else {*made, *dict(one.lets)}

@@ -8,7 +8,7 @@ import typing
 
 FOLDER = "SIMDRAM_CACHE"
 # by a statement's text, then by width, its commands and scratch rows; None where it is refused
-Kept = typing.Dict[str, typing.Optional[typing.Dict[str, typing.List[int]]]]
+Kept = dict[str, dict[str, list[int]] | None]
 
 
 def folder() -> pathlib.Path:

@@ -10,7 +10,7 @@ from .items import Items
 from .plans import NoOp, Order, Plan
 
 NAME_MAX = 14
-Call = typing.Tuple[str, typing.List[str]]
+Call = tuple[str, list[str]]
 
 
 class Statements:
@@ -24,11 +24,11 @@ class Statements:
         self.used = {name for name, _ in op.params + op.results}
         self.standing = {self.graph.leaf(WORD_LEAF if kind == WORD else BIT_LEAF, name): name for name, kind in op.params}
         # words whose positions are all one bit
-        self.spread: typing.Dict[int, str] = {}
-        self.result_of: typing.Dict[int, typing.Tuple[str, str]] = {}
+        self.spread: dict[int, str] = {}
+        self.result_of: dict[int, tuple[str, str]] = {}
         for name, kind, lit in self.lowered.results:
             self.result_of.setdefault(lit, (name, kind))
-        self.done: typing.Set[str] = set()
+        self.done: set[str] = set()
 
     # names
 
@@ -52,11 +52,11 @@ class Statements:
         self.names_for(lit, kind)[lit] = name
         return name
 
-    def names_for(self, lit: int, kind: str = WORD) -> typing.Dict[int, str]:
+    def names_for(self, lit: int, kind: str = WORD) -> dict[int, str]:
         """Where the name of a literal of a kind is kept."""
         return self.spread if kind == WORD and self.items.bits_only(lit) else self.standing
 
-    def reading(self, lit: int) -> typing.Optional[Expr]:
+    def reading(self, lit: int) -> Expr | None:
         """A literal that stands, or whose opposite does, as an expression."""
         if lit in self.standing:
             return read(self.standing[lit])
@@ -79,7 +79,7 @@ class Statements:
         op = ("div", "rem")[places[0]] if form.op == "divmod" and len(places) == 1 else form.op
         self.call([self.name(self.graph.leaf(WHOLE, number, place), WORD) for place in places], op, args)
 
-    def gate_form(self, lit: int) -> typing.Optional[typing.Tuple[str, typing.List[int]]]:
+    def gate_form(self, lit: int) -> tuple[str, list[int]] | None:
         """The word operation of a literal's gate; a choice's bit comes last."""
         node = self.graph.node(lit)
         if node.kind == "and":
@@ -88,7 +88,7 @@ class Statements:
             return None
         return ("xor", list(node.args)) if node.kind == "xor" else ("if_else", [*node.args[1:], node.args[0]])
 
-    def word_form(self, lit: int) -> typing.Optional[Call]:
+    def word_form(self, lit: int) -> Call | None:
         """A word statement for a word whose arguments stand already."""
         if self.items.bits_only(lit):
             return None

@@ -4,7 +4,7 @@ import typing
 
 from .gates import CONST, LAST, STATE, Form, Graph
 
-Values = typing.Dict[int, int]
+Values = dict[int, int]
 
 
 def replaced(graph: Graph, lit: int, values: Values, known: Values) -> int:
@@ -28,13 +28,13 @@ def equal_states(graph: Graph) -> Values:
     """
     classes = {number: 0 for number in range(len(graph.states))}
     while True:
-        first: typing.Dict[int, int] = {}
+        first: dict[int, int] = {}
         for number, its in classes.items():
             first.setdefault(its, number)
         values = {graph.leaf(kind, number): graph.leaf(kind, first[its]) if its else 0
                   for number, its in classes.items() for kind in (STATE, LAST)}
         known: Values = {}
-        names: typing.Dict[tuple, int] = {}
+        names: dict[tuple, int] = {}
         split = {}
         for number, its in classes.items():
             lit = replaced(graph, graph.states[number].next, values, known)

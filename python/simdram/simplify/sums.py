@@ -1,7 +1,5 @@
 """Sums, differences and products as gates and states."""
 
-import typing
-
 from .comparisons import Comparisons
 from .gates import WHOLE
 
@@ -11,7 +9,7 @@ PLAIN, NEGATE, BORROW = "plain", "negate", "borrow"
 class Sums(Comparisons):
     """The rules of sums; what has several spellings asks `choose`, which the search sets."""
 
-    def negated(self, lit: int) -> typing.Optional[int]:
+    def negated(self, lit: int) -> int | None:
         """x where the literal is 0 - x."""
         parts = self.was_op(lit, "sub")
         return parts[1] if parts and parts[0] == 0 else None
@@ -53,7 +51,7 @@ class Sums(Comparisons):
         found = graph.gate("xor", graph.gate("xor", a, b), borrow)
         return self.made(graph.form(found, "sub", a, b), "sub", a, b)
 
-    def _undone(self, a: int, b: int) -> typing.Optional[int]:
+    def _undone(self, a: int, b: int) -> int | None:
         """0 - (x - y) is y - x, and (x + y) - y is x."""
         parts = self.was_op(b, "sub")
         if a == 0 and parts:
@@ -63,7 +61,7 @@ class Sums(Comparisons):
             return parts[0] if parts[1] == b else parts[1]
         return None
 
-    def apart(self, a: int, b: int, s: int) -> typing.Optional[int]:
+    def apart(self, a: int, b: int, s: int) -> int | None:
         """|p - q| of a choice between p - q and q - p by p > q."""
         graph, parts = self.graph, self.was_op(a, "sub")
         if not parts or self.was_op(b, "sub") != parts[::-1]:
@@ -83,7 +81,7 @@ class Sums(Comparisons):
         borrow = graph.state("up", 0, lambda now: graph.gate("mux", differ, graph.gate("xor", p, s), now))
         return graph.gate("xor", differ, borrow)
 
-    def one_carry(self, a: int, b: int, s: int) -> typing.Optional[int]:
+    def one_carry(self, a: int, b: int, s: int) -> int | None:
         """A choice between x + y and x - y by one carry: of x, inverted where the difference is chosen, and y."""
         graph = self.graph
         for total, rest, bit in ((a, b, s), (b, a, s ^ 1)):
@@ -94,20 +92,12 @@ class Sums(Comparisons):
                 return graph.gate("xor", graph.gate("xor", *parts), carry)
         return None
 
-    def divide(self, a: int, b: int) -> typing.Tuple[int, int]:
+    def divide(self, a: int, b: int) -> tuple[int, int]:
         """The quotient and the remainder."""
         if b == 0:
             return 1, a
         number = self.graph.whole("divmod", a, b)
         return self.graph.leaf(WHOLE, number, 0), 0 if a == b else self.graph.leaf(WHOLE, number, 1)
-
-    def do_div(self, a: int, b: int) -> int:
-        """The quotient alone."""
-        return self.divide(a, b)[0]
-
-    def do_rem(self, a: int, b: int) -> int:
-        """The remainder alone."""
-        return self.divide(a, b)[1]
 
     def do_mul(self, a: int, b: int) -> int:
         """A product, which stays whole."""

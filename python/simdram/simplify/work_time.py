@@ -16,8 +16,8 @@ def spent() -> float:
 class Limits(typing.NamedTuple):
     """What a call may take: seconds of the clock, and processor seconds; nothing is no limit."""
 
-    seconds: typing.Optional[float]
-    processor_seconds: typing.Optional[float]
+    seconds: float | None
+    processor_seconds: float | None
 
 
 def limits(until: float) -> Limits:

@@ -45,7 +45,6 @@ def now_value(name: str, number: int) -> Value:
 
 
 def complemented(value: Value) -> Value:
-    """The complement of a value."""
     if value.pattern is None:
         return value
     if value in (ZERO, ONE):

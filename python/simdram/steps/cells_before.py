@@ -13,7 +13,7 @@ from .row_names import RowNames
 
 CONSTANT = "0"
 # of each cell whose value it has, the constant's or that of the first cell with it, and whether it has its complement
-Known = typing.Tuple[typing.Tuple[str, bool], ...]
+Known = tuple[tuple[str, bool], ...]
 START: Known = tuple((cell, False) for cell in CELLS)
 
 

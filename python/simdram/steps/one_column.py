@@ -5,12 +5,11 @@ import typing
 
 from ..assembler.walks import Place, Registers
 from ..files.decode import CELLS, RAISED
-from ..files.program import (AAP, AP, B_ADDRESS, BIT, C_ADDRESS, DONE, RESULT, SOURCE, SPILL, SPILLS, WORD, Entry,
-                             Instruction, Row)
+from ..files.program import (AAP, AP, B_ADDRESS, BIT, C_ADDRESS, DONE, RESULT, SOURCE, SPILL, SPILLS, WORD, Entry, Instruction, Row)
 from ..launcher.faults import Fault
 from .positions import pieces
 
-Bit = typing.Optional[int]
+Bit = int | None
 ROW = re.compile(r"([yz](?!\d)|[twp](?=\d))(\d*)(?:\[(\d+)\])?")
 MOST_INSTRUCTIONS = 1_000_000
 
@@ -20,9 +19,9 @@ class Moment(typing.NamedTuple):
     many instructions were executed before it."""
 
     at: int
-    cells: typing.Tuple[Bit, ...]
-    places: typing.Tuple[Place, ...]
-    rows: typing.Tuple[Bit, ...]
+    cells: tuple[Bit, ...]
+    places: tuple[Place, ...]
+    rows: tuple[Bit, ...]
     when: int
 
 
@@ -33,12 +32,12 @@ class Column:
     def __init__(self, entry: Entry, width: int, numbers: typing.Sequence[int], ones: typing.Collection[str] | None = None) -> None:
         self.entry, self.width = entry, width
         self.unset: Bit = None if ones is None else 0
-        self.cells: typing.Dict[str, Bit] = dict.fromkeys(CELLS, self.unset)
-        self.rows: typing.Dict[Place, Bit] = {}
+        self.cells: dict[str, Bit] = dict.fromkeys(CELLS, self.unset)
+        self.rows: dict[Place, Bit] = {}
         for name in ones or ():
             self.hold(name)
         self.registers = Registers(width)
-        self.path: typing.List[int] = []
+        self.path: list[int] = []
         # where each part begins, and what the registers held each time that it did: how many instructions before, and these
         self.firsts = {first: [] for first, _ in pieces(entry.code)}
         for which, number in enumerate(numbers):
@@ -70,7 +69,7 @@ class Column:
         for cell, turned in RAISED[row.which]:
             self.cells[cell] = inverted(value, turned)
 
-    def command(self, one: Instruction) -> typing.Tuple[typing.Tuple[Place, ...], typing.Tuple[Bit, ...]]:
+    def command(self, one: Instruction) -> tuple[tuple[Place, ...], tuple[Bit, ...]]:
         """Executes a row command: the places of its data rows, and their bits after it."""
         value = self.sensed(one.rows[0])
         if one.kind == AAP:
@@ -116,7 +115,6 @@ def place_of(name: str, entry: Entry, width: int) -> Place:
 
 
 def inverted(bit: Bit, is_inverted: bool) -> Bit:
-    """A bit, or its complement."""
     return bit if bit is None or not is_inverted else 1 - bit
 
 

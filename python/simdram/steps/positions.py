@@ -7,7 +7,7 @@ from ..assembler.forms import N, Form, changed
 from ..files.program import ADD, ADDI, BNEZ, DONE, INDEXED, MOV, REGISTERS, SETI, SETN, SETT, SUBI, Instruction, Row
 
 # of each register what it holds where a part begins: `r3` is what register 3 holds there
-Held = typing.Tuple[Form, ...]
+Held = tuple[Form, ...]
 # where the code begins, all are 0
 START: Held = (Form(),) * REGISTERS
 UNKNOWN: Held = tuple(Form.of(f"r{register}") for register in range(REGISTERS))
@@ -26,7 +26,6 @@ class Positions:
             self.held[one.register] = changed(one, self.held.__getitem__)
 
     def of(self, row: Row) -> Form:
-        """The position of a row."""
         return self.held[row.index] if row.space in INDEXED and row.index < REGISTERS else Form()
 
 

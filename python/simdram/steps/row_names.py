@@ -27,7 +27,6 @@ class RowNames:
             self.bits = {name for name, kind in kinds.items() if kind == "bit"}
 
     def put(self, space: int, names) -> None:
-        """Names the first rows of a space."""
         for which, name in enumerate(names):
             self.names[space, which] = name
 

@@ -19,7 +19,6 @@ class Page(string.Template):
 
 
 def part_data(one) -> dict:
-    """A part as the page has it."""
     return {"title": one.part.title(), "said": one.part.said + (f": {one.part.what}" if one.part.what else ""),
             "first": one.part.first, "loops": one.part.loops, "start": {**one.start}, "named": one.said,
             "subscripts": one.subscripts, "steps": [{**step._asdict(), "text": with_cells(step.text)} for step in one.done],

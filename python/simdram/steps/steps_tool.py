@@ -55,10 +55,10 @@ class Step(typing.NamedTuple):
     """A row command, what cells and rows hold after it, which of them it changed, and the data rows that it has."""
 
     text: str
-    cells: typing.Dict[str, str]
-    rows: typing.Dict[str, str]
-    changed: typing.List[str]
-    of_rows: typing.List[str]
+    cells: dict[str, str]
+    rows: dict[str, str]
+    changed: list[str]
+    of_rows: list[str]
 
 
 def steps(part: Part, rows: RowNames, names: Names, taken: dict[str, Value] | None = None) -> list[Step]:
@@ -110,13 +110,13 @@ class Shown(typing.NamedTuple):
     at its start, the bits of its iterations, and after how many instructions each began, also those that are not kept."""
 
     part: Part
-    done: typing.List[Step]
-    lines: typing.List[str]
-    said: typing.List[typing.Tuple[str, str]]
-    subscripts: typing.List[typing.Tuple[str, str]]
-    start: typing.Dict[str, str]
-    bits: typing.List[typing.Dict[str, typing.Any]]
-    when: typing.List[int]
+    done: list[Step]
+    lines: list[str]
+    said: list[tuple[str, str]]
+    subscripts: list[tuple[str, str]]
+    start: dict[str, str]
+    bits: list[dict[str, typing.Any]]
+    when: list[int]
 
 
 class View:
@@ -158,9 +158,7 @@ class View:
 
 
 def parser() -> argparse.ArgumentParser:
-    made = tool_parser("steps", __name__)
-    made.add_argument("prog", metavar="PROG")
-    made.add_argument("op", metavar="OP")
+    made = tool_parser("steps", __name__, "PROG", "OP")
     made.add_argument("--ops", metavar="OPS", help="the operation text that PROG was compiled from")
     made.add_argument("--with", dest="numbers", metavar="A=N,B=N", help="a number for each operand: cells show their bits")
     made.add_argument("--width", type=int, metavar="N", help="the width with --with; else the first of 8, 16, .. that holds the numbers")

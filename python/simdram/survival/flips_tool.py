@@ -5,27 +5,103 @@ itself: 1e-6 is one flip in a million cells and instructions. The same words giv
 """
 
 import argparse
+import dataclasses
+import math
+import random
+import typing
 
 from ..files.store import load
 from ..files.table import HEAD_MAX, Table
 from ..launcher.faults import Fault
 from ..launcher.settings import Settings
 from ..launcher.tool_parser import tool_parser
-from ..rules.script_rules import read_script
-from .flip_draws import LARGEST, Cells, drawn, rate_of, text_of
+from ..rules.script_rules import loaded_script
+
+# the greatest text of flips that a guarded run reads
+LARGEST = 1_048_576
 
 
-def instructions_in(script: str) -> int:
-    """How many instructions a script has."""
-    instructions, fault = read_script(script, load(script, "script"))
-    if fault:
-        raise Fault(f"{script} {fault.place}: {fault.kind}: {fault.rule}")
-    return len(instructions)
+class Flip(typing.NamedTuple):
+    """A cell that flips before an instruction, which is numbered from 1."""
+
+    instruction: int
+    bank: int
+    row: int
+    column: int
+
+    def __str__(self) -> str:
+        return f"{self.instruction} {self.bank} {self.row} {self.column}"
+
+
+@dataclasses.dataclass(frozen=True)
+class Cells:
+    """The data cells of an image, and how many instructions each of them stands before."""
+
+    banks: int
+    rows: int
+    columns: int
+    instructions: int
+
+    @classmethod
+    def of(cls, table: Table, instructions: int) -> "Cells":
+        """Those of an image with this head."""
+        return cls(table.banks, table.rows, 64 * table.words, instructions)
+
+    @property
+    def chances(self) -> int:
+        """How often a cell may flip, over all cells and instructions."""
+        return self.banks * self.rows * self.columns * self.instructions
+
+    def flip(self, chance: int) -> Flip:
+        """The flip of a chance: instruction by instruction, then bank, row and column."""
+        rest, column = divmod(chance, self.columns)
+        rest, row = divmod(rest, self.rows)
+        before, bank = divmod(rest, self.banks)
+        return Flip(before + 1, bank, row, column)
+
+
+def drawn(cells: Cells, rate: float, seed: int) -> typing.Iterator[Flip]:
+    """The flips at a rate, in order: each chance by itself, so that the gaps between flips are geometric."""
+    dice = random.Random(seed)
+    at = -1
+    while rate > 0:
+        at += 1 + gap(dice.random(), rate)
+        if at >= cells.chances:
+            return
+        yield cells.flip(at)
+
+
+def gap(draw: float, rate: float) -> int:
+    """How many chances go by before the next flip, by a number drawn from 0 to 1."""
+    return 0 if rate == 1 else math.floor(math.log1p(-draw) / math.log1p(-rate))
+
+
+def text_of(flips: typing.Iterable[Flip]) -> str:
+    """The text of flips, where a guarded run can read it."""
+    lines, size = [], 0
+    for flip in flips:
+        lines.append(f"{flip}\n")
+        size += len(lines[-1])
+        if size > LARGEST:
+            raise Fault(f"the flips take more than the {LARGEST:,} bytes that a guarded run reads: the rate is too great for this "
+                        "image and script")
+    return "".join(lines)
+
+
+def rate_of(text: str) -> float:
+    """The rate that a word says."""
+    try:
+        rate = float(text)
+    except ValueError:
+        rate = -1
+    if not 0 <= rate <= 1:
+        raise Fault(f"a rate is a number from 0 to 1, such as 1e-6, and not {text}")
+    return rate
 
 
 def cells_of(script: str, image: str) -> Cells:
     """The cells of an image before the instructions of a script."""
-    return Cells.of(Table.read(load(image, "image")[:HEAD_MAX], image), instructions_in(script))
+    return Cells.of(Table.read(load(image, "image")[:HEAD_MAX], image), len(loaded_script(script)[0]))
 
 
 def seed_of(text: str) -> int:

@@ -24,8 +24,7 @@ from ..launcher.faults import Fault
 from ..launcher.parallel import in_parallel
 from ..launcher.settings import Settings
 from ..launcher.tool_parser import tool_parser
-from .flip_draws import Cells, drawn, rate_of, text_of
-from .flips_tool import cells_of, seed_of
+from .flips_tool import Cells, cells_of, drawn, rate_of, seed_of, text_of
 
 HEAD = ("rate", "runs", "right", "share", "low", "high", "flips_mean", "flips_least", "flips_most", "first_wrong_seed")
 RUNS_MOST = 1_000_000
@@ -70,7 +69,6 @@ class Job:
             return Answers(tuple(filter(PRINTED.fullmatch, ended.out.splitlines())), numbers_in(Image.read(load(out), out)))
 
     def run(self, rate: float, seed: int, right: Answers) -> Run:
-        """One run at a rate."""
         flips = text_of(drawn(self.cells, rate, seed))
         return Run(seed, flips.count("\n"), self.answers(flips) == right)
 
@@ -90,7 +88,6 @@ def interval(right: int, runs: int) -> tuple[float, float]:
 
 
 def row_of(rate: float, runs: list[Run]) -> list:
-    """A row of the table."""
     right = sum(one.is_right for one in runs)
     low, high = interval(right, len(runs))
     flips = [one.flips for one in runs]
@@ -122,10 +119,7 @@ def picture_of(rows: Rows) -> Picture:
 
 
 def parser() -> argparse.ArgumentParser:
-    made = tool_parser("survival", __name__)
-    made.add_argument("ops", metavar="OPS")
-    made.add_argument("script", metavar="SCRIPT")
-    made.add_argument("image", metavar="IMAGE")
+    made = tool_parser("survival", __name__, "OPS", "SCRIPT", "IMAGE")
     made.add_argument("--rates", required=True, metavar="R,R,..", help="rates, 0 to 1 each, such as 1e-6,1e-5,1e-4")
     made.add_argument("--runs", type=int, default=100, metavar="N", help="runs for each rate; 100 unless it is given")
     made.add_argument("--seed", type=seed_of, default=0, metavar="S", help="the seed of the first run; 0 unless it is given")

@@ -1,4 +1,4 @@
-use Rattle.std.proofs.Common.{◌≡◌, ℕ, ◌<◌, ◌≤◌}
+use Rattle.std.proofs.Common.{ℕ, ◌<◌, ◌≤◌}
 use Rattle.std.specs.Prelude.{◌≢◌}
 use Rattle.uprog_code.specs.Shape.{shape_of}
 use Rattle.uprog_code.specs.Machine.{HasEnded, trace}

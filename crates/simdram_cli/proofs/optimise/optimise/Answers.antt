@@ -1,4 +1,4 @@
-use Rattle.std.proofs.Common.{sym, ◌∙◌, ap}
+use Rattle.std.proofs.Common.{◌≡◌, ◌-◌, ◌/◌, map, subst, sym, ◌∙◌, ap}
 use Rattle.std.proofs.lemmas.Result.{err_from_is_err_and}
 use Rattle.op_text.specs.Language.{operations}
 use Rattle.uprog_bin.specs.Spelling.{program_bytes}
@@ -7,7 +7,10 @@ use Rattle.cli_model.proofs.Doing.{unstored as stops_at_store, wants}
 use Rattle.cli_model.proofs.Running.{runs_answered, runs_made}
 use Rattle.simdram_cli.specs.declared.words.TheConstants.{OPS_MAX, PROG_MAX}
 use Rattle.simdram_cli.specs.Inputs.{ops_in}
-use Rattle.simdram_cli.specs.Optimise.{Made}
+use Rattle.uprog_code.specs.Texts.{text_op}
+use Rattle.optimise_job.specs.Outcomes.{AreOutcomes}
+use Rattle.simdram_cli.specs.Optimise.{Made, room_for}
+use Rattle.simdram_cli.proofs.MadeFiles.{made_within}
 use Rattle.simdram_cli.specs.Programs.{prog_in, prog_refusal, program_or_refusal}
 use Rattle.simdram_cli.proofs.Accounting.{opened_file}
 use Rattle.simdram_cli.proofs.Migrating.{prog_is}
@@ -63,6 +66,12 @@ returns-then-is_err g c =
     let r = c.in-Ok-optimised.ensures in
     let file = opened_file c.in-Ok.prog text (c.in-Ok.ensures.bytes ∙ c.deref.ensures.value)
     c.in-Ok.ensures.spelled in
+    let room : c.room_for-room.result ≡ room_for text =
+    c.room_for-room.ensures ∙ ap (λ k. (PROG_MAX - k) / 8) c.len.ensures in
+    let are = subst (λ k. AreOutcomes c.args.names.now.width k (map text_op ops) c.in-Ok.prog.programs
+    r.lines r.made r.outcomes) room r.are in
+    let within = made_within c.args.names.now.width text file
+    c.in_ok-bytes.ensures.within (map text_op ops) r.lines r.made r.outcomes r.legal are in
     let made : Made = record
     { ops = ops; lines = r.lines; program = r.made; outcomes = r.outcomes } in
     let files = g.F.Folder.view c.load.new.files in
@@ -76,7 +85,7 @@ returns-then-is_err g c =
     (λ ops_text ops_is. parsed c.args.names.now.prog.now PROG_MAX prog_in _ text
     c.in-Ok.prog.programs _ (g.F.Folder.view c.load_ops.new.files) files out chip _
     c.in_ok-bytes.ensures.loaded (prog_is text file) (takes _ _ _ _ (runs_made _ _ made _ _ _
-    (record { ops = ops_is; file = file; legal = r.legal; are = r.are })
+    (record { ops = ops_is; file = file; legal = r.legal; are = are; within = within })
     (stops_at_store c.args.names.now.new.now (program_bytes 2 r.made) _ files now out chip
     (unstored c.args.names.now.new.now files now out chip c.store.ensures.others rose
     c.store.ensures.counts)))))
@@ -88,6 +97,12 @@ returns-then-is_err-2 g c =
     let r = c.in-Ok-optimised.ensures in
     let file = opened_file c.in-Ok.prog text (c.in-Ok.ensures.bytes ∙ c.deref.ensures.value)
     c.in-Ok.ensures.spelled in
+    let room : c.room_for-room.result ≡ room_for text =
+    c.room_for-room.ensures ∙ ap (λ k. (PROG_MAX - k) / 8) c.len.ensures in
+    let are = subst (λ k. AreOutcomes c.args.names.now.width k (map text_op ops) c.in-Ok.prog.programs
+    r.lines r.made r.outcomes) room r.are in
+    let within = made_within c.args.names.now.width text file
+    c.in_ok-bytes.ensures.within (map text_op ops) r.lines r.made r.outcomes r.legal are in
     let made : Made = record
     { ops = ops; lines = r.lines; program = r.made; outcomes = r.outcomes } in
     let files = g.F.Folder.view c.load.new.files in
@@ -102,7 +117,7 @@ returns-then-is_err-2 g c =
     (λ ops_text ops_is. parsed c.args.names.now.prog.now PROG_MAX prog_in _ text
     c.in-Ok.prog.programs _ (g.F.Folder.view c.load_ops.new.files) files out chip _
     c.in_ok-bytes.ensures.loaded (prog_is text file) (takes _ _ _ _ (runs_made _ _ made _ _ _
-    (record { ops = ops_is; file = file; legal = r.legal; are = r.are })
+    (record { ops = ops_is; file = file; legal = r.legal; are = are; within = within })
     (stores c.args.names.now.new.now (program_bytes 2 r.made) _ _ files now out chip _
     (stored c.args.names.now.new.now _ files now out chip c.store.ensures.others
     (rw (c.deref-2.ensures.value, r.file_is) at there) c.store.ensures.counts)
@@ -117,6 +132,12 @@ returns g c =
     let r = c.in-Ok-optimised.ensures in
     let file = opened_file c.in-Ok.prog text (c.in-Ok.ensures.bytes ∙ c.deref.ensures.value)
     c.in-Ok.ensures.spelled in
+    let room : c.room_for-room.result ≡ room_for text =
+    c.room_for-room.ensures ∙ ap (λ k. (PROG_MAX - k) / 8) c.len.ensures in
+    let are = subst (λ k. AreOutcomes c.args.names.now.width k (map text_op ops) c.in-Ok.prog.programs
+    r.lines r.made r.outcomes) room r.are in
+    let within = made_within c.args.names.now.width text file
+    c.in_ok-bytes.ensures.within (map text_op ops) r.lines r.made r.outcomes r.legal are in
     let made : Made = record
     { ops = ops; lines = r.lines; program = r.made; outcomes = r.outcomes } in
     let files = g.F.Folder.view c.load.new.files in
@@ -132,7 +153,7 @@ returns g c =
     (λ ops_text ops_is. parsed c.args.names.now.prog.now PROG_MAX prog_in _ text
     c.in-Ok.prog.programs _ (g.F.Folder.view c.load_ops.new.files) files out chip _
     c.in_ok-bytes.ensures.loaded (prog_is text file) (takes _ _ _ _ (runs_made _ _ made _ _ _
-    (record { ops = ops_is; file = file; legal = r.legal; are = r.are })
+    (record { ops = ops_is; file = file; legal = r.legal; are = are; within = within })
     (stores c.args.names.now.new.now (program_bytes 2 r.made) _ _ files now out chip _
     (stored c.args.names.now.new.now _ files now out chip c.store.ensures.others
     (rw (c.deref-2.ensures.value, r.file_is) at there) c.store.ensures.counts)
