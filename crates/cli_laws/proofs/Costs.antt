@@ -12,13 +12,13 @@ use Rattle.uprog_code.specs.Count.{counts_of, walked}
 use Rattle.uprog_code.specs.Machine.{HasEnded, Trace, Ended, Stuck, issues_of, trace}
 use Rattle.uprog_code.specs.Shape.{Microprogram, Shape}
 use Rattle.uprog_code.specs.Texts.{EntryDoes, ImplementsAll, op_shape, text_op}
-use Rattle.uprog_gen.specs.Totals.{AreExact, BlockCounts, IsExact, op_counts}
+use Rattle.uprog_gen.specs.Totals.{AreExact, IsExact, op_counts}
 use Rattle.uprog_bin.proofs.Versions.{file_is_one}
 use Rattle.prog_text.specs.Costs.{at_text, cost_line, cost_lines, cost_text, costs}
 use Rattle.prog_text.specs.Widths.{is_single}
 use Rattle.machine_model.specs.Routines.{Program}
 use Rattle.simdram_cli.specs.declared.account.ProgramAccount.TheVariants.{Listing, Costs}
-use Rattle.cli_laws.specs.Costs.{AreAllCounts, CostsOfCompiled, exact_costs, exact_line}
+use Rattle.cli_laws.specs.Costs.{CostsOfCompiled, blocks_of, exact_costs, exact_line}
 use Rattle.cli_laws.proofs.Unique.{one_value}
 
 abbrev IsWidth : ℕ → Type 0
@@ -53,20 +53,6 @@ lines_are f g same (n ∷ widths) all =
     ∙ ap (λ l. g n ++ l) (lines_are f g same widths all.1)
     ∙ sym (flat_map-cons g n widths)
 
--- the numbers of all blocks
-abbrev blocks_of : (p : Program) (ops : List Operation) → AreExact p ops → List (List BlockCounts)
-blocks_of [] [] x = []
-blocks_of [] (op ∷ ops) x = []
-blocks_of (e ∷ p) [] x = []
-blocks_of (e ∷ p) (op ∷ ops) x = x.0.blocks ∷ blocks_of p ops x.1
-
-are_counts : (p : Program) (ops : List Operation) (x : AreExact p ops)
-    → AreAllCounts ops (blocks_of p ops x)
-are_counts [] [] x = tt
-are_counts [] (op ∷ ops) x = absurd x
-are_counts (e ∷ p) [] x = absurd x
-are_counts (e ∷ p) (op ∷ ops) x = (x.0.are, are_counts p ops x.1)
-
 costs_are : (widths : List ℕ) → AllByRecursion IsWidth widths → (p : Program)
     (ops : List Operation) → ImplementsAll p (map text_op ops) → (x : AreExact p ops)
     → costs widths p ≡ exact_costs widths ops (blocks_of p ops x)
@@ -88,11 +74,7 @@ costs_of_compiled names before after last a b c d (Costs widths) wide k t =
     let same : t.program ≡ k.program =
     (file_is_one t.version 2 t.program k.program t.legal m.legal t.has (inr refl)
     (one_value (after names.prog.now) _ _ t.is k.is)).1 in
-    record {
-      blocks = blocks_of k.program m.ops m.exact;
-      are = are_counts k.program m.ops m.exact;
-      sent = subst (λ (w : List ℕ). Known (λ x y. y ≡ x ++ w) c.sink.sent d.sink.sent)
-          (ap (costs widths.items) same
-          ∙ costs_are widths.items (recursion_from_All IsWidth widths.items wide) k.program m.ops
-          m.implements m.exact) t.sent;
-    }
+    subst (λ (w : List ℕ). Known (λ x y. y ≡ x ++ w) c.sink.sent d.sink.sent)
+    (ap (costs widths.items) same
+    ∙ costs_are widths.items (recursion_from_All IsWidth widths.items wide) k.program m.ops
+    m.implements m.exact) t.sent

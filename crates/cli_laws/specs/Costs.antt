@@ -4,9 +4,10 @@ use Rattle.std.specs.List.{flat_map}
 use Rattle.host_edge.specs.Views.{Files, Known}
 use Rattle.op_text.specs.Language.{Operation}
 use Rattle.uprog_code.specs.Texts.{op_shape}
-use Rattle.uprog_gen.specs.Totals.{AreBlockCounts, BlockCounts, op_counts}
+use Rattle.uprog_gen.specs.Totals.{AreExact, BlockCounts, op_counts}
 use Rattle.prog_text.specs.Costs.{at_text, cost_text}
 use Rattle.prog_text.specs.Widths.{is_single}
+use Rattle.machine_model.specs.Routines.{Program}
 use Rattle.cli_model.specs.World.{World}
 use Rattle.simdram_cli.specs.declared.account.ProgramAccount.{ProgramAccount}
 use Rattle.simdram_cli.specs.declared.account.ProgramAccount.TheVariants.{Listing, Costs}
@@ -26,29 +27,26 @@ exact_costs widths (op ∷ ops) [] = []
 exact_costs widths (op ∷ ops) (b ∷ bs) =
     flat_map (exact_line (is_single widths) op b) widths ++ exact_costs widths ops bs
 
--- of each op one for each of its serial blocks
-abbrev pub AreAllCounts : List Operation → List (List BlockCounts) → Type 0
-AreAllCounts [] [] = Unit {0}
-AreAllCounts [] (b ∷ bs) = ⊥
-AreAllCounts (op ∷ ops) [] = ⊥
-AreAllCounts (op ∷ ops) (b ∷ bs) = AreBlockCounts op.body b × AreAllCounts ops bs
+-- the numbers of each op's serial blocks by which its entry is exact at all widths
+abbrev pub blocks_of : (p : Program) (ops : List Operation) → AreExact p ops
+    → List (List BlockCounts)
+blocks_of [] [] x = []
+blocks_of [] (op ∷ ops) x = []
+blocks_of (e ∷ p) [] x = []
+blocks_of (e ∷ p) (op ∷ ops) x = x.0.blocks ∷ blocks_of p ops x.1
 
--- what was sent says of each op the sum over its statements, with numbers of its blocks that no
--- width changes
-pub record CostsAreExact (ops : List Operation) (widths : List ℕ) (old new : World) : Type 0 where
-  pub blocks : List (List BlockCounts)
-  pub are : AreAllCounts ops blocks
-  pub sent : Known (λ x y. y ≡ x ++ exact_costs widths ops blocks) old.sink.sent new.sink.sent
+-- of costs there was sent, for each op and width, the sum over its statements with these blocks
+abbrev pub AccountIsExact : List Operation → List (List BlockCounts) → ProgramAccount
+    → World → World → Type 0
+AccountIsExact ops blocks Listing old new = Unit {0}
+AccountIsExact ops blocks (Costs widths) old new =
+    Known (λ x y. y ≡ x ++ exact_costs widths.items ops blocks) old.sink.sent new.sink.sent
 
--- so it is where the account is of costs
-abbrev pub AccountIsExact : List Operation → ProgramAccount → World → World → Type 0
-AccountIsExact ops Listing old new = Unit {0}
-AccountIsExact ops (Costs widths) old new = CostsAreExact ops widths.items old new
-
--- a `cost` of PROG that `compile` stored sends the exact commands of the ops of OPS
+-- a `cost` of PROG that `compile` stored sends these sums by the numbers exact at all widths
 abbrev pub CostsOfCompiled : Type 0
 CostsOfCompiled =
     (names : CompileNames) (before after last : Files) (a b c d : World) (account : ProgramAccount)
     → IsAsked account → (k : Compiled names before after a b)
     → ProgramTold names.prog.now account after last c d
-    → AccountIsExact k.compiled.ops account c d
+    → AccountIsExact k.compiled.ops (blocks_of k.program k.compiled.ops k.compiled.exact) account
+    c d

@@ -27,3 +27,5 @@ mod shorten_tests;
 mod table_tests;
 #[cfg(test)]
 mod wave_tests;
+#[cfg(test)]
+mod width_tests;

@@ -1,0 +1,9 @@
+pub mod AsGood
+pub mod Found
+pub mod Implemented
+pub mod Named
+pub mod Offers
+pub mod Pushed
+pub mod Right
+pub mod Sizes
+pub mod Written

@@ -1,0 +1,11 @@
+pub mod Steps
+pub mod Tests
+pub mod Lines
+pub mod Moved
+pub mod Legal
+pub mod Widths
+pub mod Budget
+pub mod Whole
+pub mod Named
+pub mod Own
+pub mod Made
