@@ -113,11 +113,7 @@ impl Bank {
     }
 
     /// A line's commands.
-    pub(crate) fn commands(
-        self,
-        line: &[Issued],
-        alloc: Global,
-    ) -> Result<Vec<Command>, NoMemory> {
+    pub(crate) fn commands(self, line: &[Issued], alloc: Global) -> Result<Vec<Command>, NoMemory> {
         let mut commands = Vec::new(alloc);
         for issued in line {
             let command = match issued {

@@ -99,10 +99,7 @@ fn is_taken(outcome: &Outcome) -> bool
 fn taken_lines(outcomes: &[Outcome]) -> usize
     ensures { result ≡ count_by is_taken outcomes.now }
 {
-    outcomes
-        .iter()
-        .filter(|outcome| is_taken(outcome))
-        .count()
+    outcomes.iter().filter(|outcome| is_taken(outcome)).count()
 }
 
 /// Appends the last line.
