@@ -10,8 +10,7 @@ TOP = pathlib.Path(__file__).resolve().parent.parent
 sys.path.append(str(TOP / "python"))
 
 from simdram.assembler.walks import walk  # noqa: E402
-from simdram.files.program import Entry, Program  # noqa: E402
-from simdram.files.row_rules import B_ADDRESS, C_ADDRESS, RESULT, SOURCE  # noqa: E402
+from simdram.files.program import B_ADDRESS, C_ADDRESS, RESULT, SOURCE, Entry, Program  # noqa: E402
 
 SOURCE_TEXT = TOP / "bench" / "walk.cpp"
 FIRST_ROW = 18
