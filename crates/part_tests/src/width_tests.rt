@@ -27,7 +27,9 @@ fn copies() -> [Issued; 2] {
 fn a_line_is_issued_at_its_width_alone(rt: HostRuntime) -> Result<(), Fail> {
     let xor = xor_entry(rt.alloc())?;
     let line = copies();
-    let made = for_width(&xor, 2, line.as_slice(), rt.alloc()).ok().ok_or("an entry")?;
+    let made = for_width(&xor, 2, line.as_slice(), rt.alloc())
+        .ok()
+        .ok_or("an entry")?;
     let own = Counts { aap: 5, ap: 2 };
     assert!(rt; walk(&made, 1) == Ok(own));
     assert!(rt; walk(&made, 2) == Ok(Counts { aap: 2, ap: 0 }));
@@ -44,8 +46,12 @@ fn a_line_is_issued_at_its_width_alone(rt: HostRuntime) -> Result<(), Fail> {
 fn lines_for_two_widths(rt: HostRuntime) -> Result<(), Fail> {
     let xor = xor_entry(rt.alloc())?;
     let line = copies();
-    let two = for_width(&xor, 2, line.as_slice(), rt.alloc()).ok().ok_or("an entry")?;
-    let both = for_width(&two, 3, &line[0..1], rt.alloc()).ok().ok_or("an entry")?;
+    let two = for_width(&xor, 2, line.as_slice(), rt.alloc())
+        .ok()
+        .ok_or("an entry")?;
+    let both = for_width(&two, 3, &line[0..1], rt.alloc())
+        .ok()
+        .ok_or("an entry")?;
     assert!(rt; walk(&both, 1) == Ok(Counts { aap: 5, ap: 2 }));
     assert!(rt; walk(&both, 2) == Ok(Counts { aap: 2, ap: 0 }));
     assert!(rt; walk(&both, 3) == Ok(Counts { aap: 1, ap: 0 }));
