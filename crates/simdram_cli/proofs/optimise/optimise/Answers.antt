@@ -67,7 +67,8 @@ returns-then-is_err g c =
     let file = opened_file c.in-Ok.prog text (c.in-Ok.ensures.bytes ∙ c.deref.ensures.value)
     c.in-Ok.ensures.spelled in
     let room : c.room_for-room.result ≡ room_for text =
-    c.room_for-room.ensures ∙ ap (λ k. (PROG_MAX - k) / 8) c.len.ensures in
+    c.room_for-room.ensures ∙ ap (λ k. (PROG_MAX - k) / 8) (c.len.ensures
+    ∙ c.in_ok-bytes.bytes.ok.0) in
     let are = subst (λ k. AreOutcomes c.args.names.now.width k (map text_op ops) c.in-Ok.prog.programs
     r.lines r.made r.outcomes) room r.are in
     let within = made_within c.args.names.now.width text file
@@ -98,7 +99,8 @@ returns-then-is_err-2 g c =
     let file = opened_file c.in-Ok.prog text (c.in-Ok.ensures.bytes ∙ c.deref.ensures.value)
     c.in-Ok.ensures.spelled in
     let room : c.room_for-room.result ≡ room_for text =
-    c.room_for-room.ensures ∙ ap (λ k. (PROG_MAX - k) / 8) c.len.ensures in
+    c.room_for-room.ensures ∙ ap (λ k. (PROG_MAX - k) / 8) (c.len.ensures
+    ∙ c.in_ok-bytes.bytes.ok.0) in
     let are = subst (λ k. AreOutcomes c.args.names.now.width k (map text_op ops) c.in-Ok.prog.programs
     r.lines r.made r.outcomes) room r.are in
     let within = made_within c.args.names.now.width text file
@@ -133,7 +135,8 @@ returns g c =
     let file = opened_file c.in-Ok.prog text (c.in-Ok.ensures.bytes ∙ c.deref.ensures.value)
     c.in-Ok.ensures.spelled in
     let room : c.room_for-room.result ≡ room_for text =
-    c.room_for-room.ensures ∙ ap (λ k. (PROG_MAX - k) / 8) c.len.ensures in
+    c.room_for-room.ensures ∙ ap (λ k. (PROG_MAX - k) / 8) (c.len.ensures
+    ∙ c.in_ok-bytes.bytes.ok.0) in
     let are = subst (λ k. AreOutcomes c.args.names.now.width k (map text_op ops) c.in-Ok.prog.programs
     r.lines r.made r.outcomes) room r.are in
     let within = made_within c.args.names.now.width text file
