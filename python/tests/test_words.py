@@ -25,7 +25,7 @@ def called(*words, **more):
 
 def whole(command):
     """Words that are a command: each file by its own name, each number in its range."""
-    numbers = {"width": "1-8,16", "banks": "1", "rows": "64", "words": "1", "seed": "7"}
+    numbers = {"width": "1-8,16", "one width": "8", "walk": "7", "work": "10", "banks": "1", "rows": "64", "words": "1", "seed": "7"}
     return [command.name, *(numbers.get(word.kind, word.name.lower()) for word in command.words)]
 
 
@@ -44,6 +44,11 @@ class WrongWords(unittest.TestCase):
             (["cost", "p", "1-2-3"], "in decimal digits; it cannot be '1-2-3'"),
             (["verify", "o", "p", "8,4"], "in decimal digits; it cannot be '8,4'"),
             (["verify", "o", "p", "8-4"], "in decimal digits; it cannot be '8-4'"),
+            (["optimise", "o", "p", "4,8", "n"], "in decimal digits; it cannot be '4,8'"),
+            (["optimise", "o", "p", "8"], "the following arguments are required: NEW"),
+            (["optimise", "o", "p", "8", "p"], "PROG and NEW are the same file, p"),
+            (["optimise", "o", "p", "8", "n", "1", "x"], "the number of changes, in decimal digits"),
+            (["optimise", "o", "p", "8", "n", "1", "2", "3"], "3 is one argument too many"),
             (["init", "1", "63", "1", "o"], "64 to 1006; it cannot be 63"),
             (["init", "16", "1006", "1024", "o"], "more than the 8388608 words"),
             (["soak", str(2**64)], "the seed"),
@@ -59,6 +64,10 @@ class WrongWords(unittest.TestCase):
 
     def test_image_and_out_may_be_one(self):
         self.assertIsNone(wrong_words(["run", "o", "p", "s", "i", "i"]))
+
+    def test_words_that_may_be_left_out(self):
+        for more in ([], ["1"], ["1", "1000"]):
+            self.assertIsNone(wrong_words(["optimise", "o", "p", "8", "n", *more]), more)
 
     def test_no_word_is_an_option(self):
         for name in ("--", "-x", "--help", "=a", "@a"):

@@ -1,8 +1,9 @@
 -- What the words of a command say of its files and numbers.
 use Rattle.std.proofs.Common.{◌≡◌, ℕ, Bool, true, false, cond, List, [], ◌∷◌, Option, Some, None}
-use Rattle.std.proofs.Common.{refl, subst, nat_lt, ◌^◌}
+use Rattle.std.proofs.Common.{refl, subst, nat_le, nat_lt, ◌^◌, ◌<◌, ◌≤◌}
 use Rattle.std.specs.Prelude.{◌&&◌, IfSome, bytes_eq, codes}
-use Rattle.std.proofs.lemmas.Bool.{ltb-true}
+use Rattle.std.proofs.lemmas.Bool.{leb-true, ltb-true}
+use Rattle.bit_rows.specs.declared.TheConstants.{WIDTH_MAX}
 use Rattle.std.specs.Option.{option_map}
 use denote.Ref.{Bor}
 use Rattle.dram_model.specs.Geometry.{is_geometry}
@@ -16,9 +17,12 @@ use Rattle.simdram_cli.specs.declared.words.TraceNames.{TraceNames}
 use Rattle.simdram_cli.specs.declared.words.Command.TheVariants.{Replay}
 use Rattle.simdram_cli.specs.declared.words.Command.TheVariants.{Guard}
 use Rattle.simdram_cli.specs.declared.words.Command.TheVariants.{Verify}
+use Rattle.simdram_cli.specs.declared.words.Command.TheVariants.{Optimise}
 use Rattle.simdram_cli.specs.declared.words.GuardNames.{GuardNames}
 use Rattle.simdram_cli.specs.Words.{HasNumbers, IsApart, are_apart, command_of, command_on_one}
 use Rattle.simdram_cli.specs.Words.{command_on_four, command_on_two, cost_at, cost_on, init_on}
+use Rattle.simdram_cli.specs.Words.{all_differ, command_on_five, command_on_six, is_count}
+use Rattle.simdram_cli.specs.Words.{is_width, optimise_on}
 use Rattle.simdram_cli.specs.Numbers.{is_number, value_of}
 use Rattle.simdram_cli.specs.Widths.{widths_in}
 use Rattle.simdram_cli.specs.Words.{inputs_apart, soak_on}
@@ -83,6 +87,36 @@ verify_right ops prog word =
     no_other (bytes_eq ops.now prog.now) _ (λ apart. at_widths (widths_in word) (verify_at ops prog)
     (λ widths e. record { apart = apart; numbers = widths_are word widths e }))
 
+-- a width that a word writes
+width_right : (word : List ℕ) → is_width word ≡ true
+    → (0 < value_of word) × (value_of word ≤ WIDTH_MAX)
+width_right word e =
+    let low = nat_lt 0 (value_of word) in
+    let high = nat_le (value_of word) WIDTH_MAX in
+    let both = second_holds (is_number word) (low && high) e in (
+      ltb-true 0 (value_of word) (first_holds low high both),
+      leb-true (value_of word) WIDTH_MAX (second_holds low high both),
+    )
+
+optimise_right : (ops prog : Bor (List ℕ)) (width : List ℕ) (new : Bor (List ℕ))
+    (seed work : List ℕ) → AreRight (optimise_on ops prog width new seed work)
+optimise_right ops prog width new seed work =
+    let apart = all_differ (ops.now ∷ prog.now ∷ new.now ∷ []) in
+    let counts = is_count seed && is_count work in
+    let numbers = is_width width && counts in
+    if_so (apart && numbers) (Optimise (record {
+      ops = ops;
+      prog = prog;
+      new = new;
+      width = value_of width;
+      seed = value_of seed;
+      work = value_of work;
+    })) (λ e. record {
+      apart = first_holds apart numbers e;
+      numbers = width_right width
+          (first_holds (is_width width) counts (second_holds apart numbers e));
+    })
+
 init_right : (banks rows words : List ℕ) (out : Bor (List ℕ))
     → AreRight (init_on banks rows words out)
 init_right banks rows words out =
@@ -145,11 +179,13 @@ on_four_right verb first second third fourth =
     let apart = inputs_apart first.now second.now third.now fourth.now in
     either (bytes_eq verb (codes "init")) (init_on first.now second.now third.now fourth) _
     (init_right first.now second.now third.now fourth) (λ other.
-    if_so (bytes_eq verb (codes "exec") && apart) (Exec (record
-    { prog = first; script = second; image = third; out = fourth })) (λ e. record {
+    if_or (bytes_eq verb (codes "exec") && apart) (Exec (record
+    { prog = first; script = second; image = third; out = fourth })) _ (λ e. record {
       apart = second_holds (bytes_eq verb (codes "exec")) apart e;
       numbers = tt;
-    }))
+    }) (either (bytes_eq verb (codes "optimise"))
+    (optimise_on first second third.now fourth (codes "1") (codes "50000")) None
+    (optimise_right first second third.now fourth (codes "1") (codes "50000")) (λ none. tt)))
 
 trace_right : (verb : List ℕ) (names : TraceNames) → AreRight (trace_on verb names)
 trace_right verb names =
@@ -165,6 +201,39 @@ guard_right verb names =
       numbers = tt;
     })
 
+on_five_right : (verb : List ℕ) (first second third fourth fifth : Bor (List ℕ))
+    → AreRight (command_on_five verb first second third fourth fifth)
+on_five_right verb first second third fourth fifth =
+    let apart = are_apart first.now second.now third.now fourth.now fifth.now in
+    let traced : TraceNames =
+    record { prog = first; script = second; image = third; out = fourth; trace = fifth } in
+    either (bytes_eq verb (codes "optimise"))
+    (optimise_on first second third.now fourth fifth.now (codes "50000")) _
+    (optimise_right first second third.now fourth fifth.now (codes "50000")) (λ other.
+    if_or (bytes_eq verb (codes "run") && apart) (Run (record
+    { ops = first; prog = second; script = third; image = fourth; out = fifth }))
+    (trace_on verb traced)
+    (λ e. record {
+      apart = second_holds (bytes_eq verb (codes "run")) apart e;
+      numbers = tt;
+    }) (trace_right verb traced))
+
+on_six_right : (verb : List ℕ) (first second third fourth fifth sixth : Bor (List ℕ))
+    → AreRight (command_on_six verb first second third fourth fifth sixth)
+on_six_right verb first second third fourth fifth sixth =
+    let names : GuardNames = record {
+      ops = first;
+      prog = second;
+      script = third;
+      image = fourth;
+      flips = fifth;
+      out = sixth;
+    } in
+    either (bytes_eq verb (codes "optimise"))
+    (optimise_on first second third.now fourth fifth.now sixth.now) _
+    (optimise_right first second third.now fourth fifth.now sixth.now) (λ other.
+    guard_right verb names)
+
 words_right : (words : List (Bor (List ℕ))) → AreRight (command_of words)
 words_right [] = tt
 words_right (a ∷ []) = tt
@@ -178,26 +247,10 @@ words_right (verb ∷ first ∷ second ∷ third ∷ []) =
     on_three_right verb.now first second third
 words_right (verb ∷ first ∷ second ∷ third ∷ fourth ∷ []) =
     on_four_right verb.now first second third fourth
-words_right (verb ∷ ops ∷ prog ∷ script ∷ image ∷ out ∷ []) =
-    let apart = are_apart ops.now prog.now script.now image.now out.now in
-    let traced : TraceNames =
-    record { prog = ops; script = prog; image = script; out = image; trace = out } in
-    if_or (bytes_eq verb.now (codes "run") && apart) (Run (record
-    { ops = ops; prog = prog; script = script; image = image; out = out })) (trace_on verb.now
-    traced)
-    (λ e. record {
-      apart = second_holds (bytes_eq verb.now (codes "run")) apart e;
-      numbers = tt;
-    }) (trace_right verb.now traced)
-words_right (verb ∷ ops ∷ prog ∷ script ∷ image ∷ flips ∷ out ∷ []) =
-    guard_right verb.now (record {
-      ops = ops;
-      prog = prog;
-      script = script;
-      image = image;
-      flips = flips;
-      out = out;
-    })
+words_right (verb ∷ first ∷ second ∷ third ∷ fourth ∷ fifth ∷ []) =
+    on_five_right verb.now first second third fourth fifth
+words_right (verb ∷ first ∷ second ∷ third ∷ fourth ∷ fifth ∷ sixth ∷ []) =
+    on_six_right verb.now first second third fourth fifth sixth
 words_right (a ∷ b ∷ c ∷ d ∷ f ∷ h ∷ i ∷ j ∷ rest) = tt
 
 right_one : (o : Option Command) (command : Command) → o ≡ Some command → AreRight o

@@ -9,7 +9,7 @@ use Rattle.simdram_cli.specs.declared.words.Command.{Command}
 use Rattle.simdram_cli.specs.declared.words.Command.TheVariants.{Run, Exec, Compile, Migrate}
 use Rattle.simdram_cli.specs.declared.words.Command.TheVariants.{Account as AccountOf, Init, Soak}
 use Rattle.simdram_cli.specs.declared.words.Command.TheVariants.{Guard, Replay, Scan, Trace}
-use Rattle.simdram_cli.specs.declared.words.Command.TheVariants.{Verify}
+use Rattle.simdram_cli.specs.declared.words.Command.TheVariants.{Optimise, Verify}
 use Rattle.simdram_cli.specs.Accounts.{account_plan}
 use Rattle.simdram_cli.specs.Commands.{CommandEnds, OnCommand}
 use Rattle.simdram_cli.specs.Compile.{compile_plan}
@@ -18,6 +18,7 @@ use Rattle.simdram_cli.specs.Exec.{exec_plan}
 use Rattle.simdram_cli.specs.Guard.{guard_plan}
 use Rattle.simdram_cli.specs.Init.{init_plan}
 use Rattle.simdram_cli.specs.Migrate.{migrate_plan}
+use Rattle.simdram_cli.specs.Optimise.{optimise_plan}
 use Rattle.simdram_cli.specs.Replay.{replay_plan}
 use Rattle.simdram_cli.specs.Run.{run_plan}
 use Rattle.simdram_cli.specs.Scan.{scan_plan}
@@ -34,6 +35,7 @@ use Rattle.simdram_cli.proofs.GuardPlanned.{guard_good, guard_takes}
 use Rattle.simdram_cli.proofs.Guarding.{apart as guard_files_apart}
 use Rattle.simdram_cli.proofs.Initial.{init_good, init_takes}
 use Rattle.simdram_cli.proofs.Migrating.{migrate_good, migrate_takes}
+use Rattle.simdram_cli.proofs.Optimising.{optimise_good, optimise_takes}
 use Rattle.simdram_cli.proofs.Promising.{on_command}
 use Rattle.simdram_cli.proofs.Replaying.{replay_good, replay_takes}
 use Rattle.simdram_cli.proofs.RunPlanned.{run_good, run_takes}
@@ -82,6 +84,9 @@ completes (Guard names) old new status are e = λ good n.
 completes (Verify names) old new status are e = λ good n.
     plan_completes (IsOneOf (10 ∷ 0 ∷ 19 ∷ 20 ∷ [])) (verify_plan names) old new status
     (verify_good names old.files.holds good) refl n e
+completes (Optimise names) old new status are e = λ good n.
+    plan_completes (IsOneOf (10 ∷ 0 ∷ [])) (optimise_plan names) old new status
+    (optimise_good names old.files.holds good) refl n e
 
 -- what want of memory leaves
 pub spares : (command : Command) (old new : World) (status : ℕ)
@@ -110,6 +115,8 @@ spares (Guard names) old new status e =
     plan_spares (Some names.prog.now) (guard_plan names) old new status (guard_takes names) e
 spares (Verify names) old new status e =
     plan_spares None (verify_plan names) old new status (verify_takes names) e
+spares (Optimise names) old new status e =
+    plan_spares None (optimise_plan names) old new status (optimise_takes names) e
 
 -- on the words of a command
 

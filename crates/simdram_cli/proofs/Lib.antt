@@ -10,6 +10,8 @@ pub mod Progress
 pub mod Performing
 pub mod Running
 pub mod Migrating
+pub mod MadeFiles
+pub mod Optimising
 pub mod Compiling
 pub mod Accounting
 pub mod Commanding

@@ -12,6 +12,7 @@ use Rattle.simdram_cli.specs.declared.words.Command.TheVariants.{Trace}
 use Rattle.simdram_cli.specs.declared.words.Command.TheVariants.{Replay}
 use Rattle.simdram_cli.specs.declared.words.Command.TheVariants.{Guard}
 use Rattle.simdram_cli.specs.declared.words.Command.TheVariants.{Verify}
+use Rattle.simdram_cli.specs.declared.words.Command.TheVariants.{Optimise}
 use Rattle.simdram_cli.specs.Words.{command_of}
 use Rattle.simdram_cli.specs.Run.{run_plan}
 use Rattle.simdram_cli.specs.Headline.{Headline}
@@ -26,6 +27,7 @@ use Rattle.simdram_cli.specs.Scan.{ScanEnds, Scanned}
 use Rattle.simdram_cli.specs.Tracing.{trace_plan, Traced}
 use Rattle.simdram_cli.specs.Replay.{replay_plan, Replayed}
 use Rattle.simdram_cli.specs.Guard.{guard_plan, Guarded}
+use Rattle.simdram_cli.specs.Optimise.{Optimised, optimise_plan}
 use Rattle.simdram_cli.specs.Verify.{verify_plan, IsVerifyDone, Verified}
 
 -- the statuses that a command can answer
@@ -43,6 +45,7 @@ statuses (Replay names) = 0 ∷ 2 ∷ 3 ∷ 7 ∷ 9 ∷ 10 ∷ 11 ∷ 13 ∷ 14 
 statuses (Guard names) =
     0 ∷ 2 ∷ 3 ∷ 4 ∷ 6 ∷ 7 ∷ 8 ∷ 9 ∷ 10 ∷ 11 ∷ 17 ∷ 18 ∷ []
 statuses (Verify names) = 0 ∷ 2 ∷ 3 ∷ 4 ∷ 5 ∷ 10 ∷ 11 ∷ 19 ∷ 20 ∷ []
+statuses (Optimise names) = 0 ∷ 2 ∷ 3 ∷ 4 ∷ 5 ∷ 10 ∷ 11 ∷ []
 
 -- the command can end with this status
 abbrev pub CanAnswer : Command → ℕ → Type 0
@@ -63,6 +66,7 @@ CommandEnds (Trace names) old new status = EndsBy (trace_plan names) old new sta
 CommandEnds (Replay names) old new status = EndsBy (replay_plan names) old new status
 CommandEnds (Guard names) old new status = EndsBy (guard_plan names) old new status
 CommandEnds (Verify names) old new status = EndsBy (verify_plan names) old new status
+CommandEnds (Optimise names) old new status = EndsBy (optimise_plan names) old new status
 
 -- what it promises when it ends as it should, where the folder tells its files; a soak touches
 -- none, and promises it in any folder
@@ -96,6 +100,8 @@ Promises (Guard names) old new status = (status ≡ 0) ⊎ (status ≡ 8)
 Promises (Verify names) old new status = IsVerifyDone status
     → Known (λ before after. Verified names before after old new status) old.files.holds
     new.files.holds
+Promises (Optimise names) old new status = status ≡ 0
+    → Known (λ before after. Optimised names before after old new) old.files.holds new.files.holds
 
 -- where the words are a command
 abbrev pub OnCommand : List (Bor (List ℕ)) → (Command → Type 0) → Type 0

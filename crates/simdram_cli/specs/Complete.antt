@@ -21,6 +21,7 @@ use Rattle.simdram_cli.specs.declared.words.Command.TheVariants.{Trace}
 use Rattle.simdram_cli.specs.declared.words.Command.TheVariants.{Replay}
 use Rattle.simdram_cli.specs.declared.words.Command.TheVariants.{Guard}
 use Rattle.simdram_cli.specs.declared.words.Command.TheVariants.{Verify}
+use Rattle.simdram_cli.specs.declared.words.Command.TheVariants.{Optimise}
 use Rattle.simdram_cli.specs.Flips.{flips_in}
 use Rattle.simdram_cli.specs.Inputs.{ops_in, script_in, image_of}
 use Rattle.simdram_cli.specs.Programs.{prog_in}
@@ -89,6 +90,7 @@ AreGood (Guard names) file = IsOps (file names.ops.now)
     × (script : IsScript (file names.script.now)) × (image : IsImageFile (file names.image.now))
     × IsFlipsFile image.value.geometry (length script.value) (file names.flips.now)
 AreGood (Verify names) file = IsOps (file names.ops.now) × IsProg (file names.prog.now)
+AreGood (Optimise names) file = IsOps (file names.ops.now) × IsProg (file names.prog.now)
 
 -- the statuses of the command where it is done
 abbrev pub done_statuses : Command → List ℕ
@@ -104,6 +106,7 @@ done_statuses (Trace names) = 0 ∷ 8 ∷ 12 ∷ []
 done_statuses (Replay names) = 0 ∷ 14 ∷ []
 done_statuses (Guard names) = 0 ∷ 8 ∷ 17 ∷ []
 done_statuses (Verify names) = 0 ∷ 19 ∷ 20 ∷ []
+done_statuses (Optimise names) = 0 ∷ []
 
 -- Where its files are good and nothing failed, the command is done, or answers 10
 abbrev pub Completes : Command → World → World → ℕ → Type 0
@@ -127,3 +130,4 @@ Spares (Trace names) old new status = status ≡ 10 → IsSpared None old new
 Spares (Replay names) old new status = status ≡ 10 → IsSpared None old new
 Spares (Guard names) old new status = status ≡ 10 → IsSpared (Some names.prog.now) old new
 Spares (Verify names) old new status = status ≡ 10 → IsSpared None old new
+Spares (Optimise names) old new status = status ≡ 10 → IsSpared None old new

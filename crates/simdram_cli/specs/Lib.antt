@@ -12,6 +12,7 @@ pub mod Job
 pub mod Works
 pub mod Ends
 pub mod Headline
+pub mod Optimise
 pub mod Plans
 pub mod Run
 pub mod Exec

@@ -1,10 +1,11 @@
 -- The words of a command.
 use Rattle.std.specs.Prelude.{◌≡◌, ℕ, Bool, true, false, not, ◌&&◌, List, [], ◌∷◌, Option, Some}
-use Rattle.std.specs.Prelude.{None, ◌<◌, ◌^◌, nat_lt}
+use Rattle.std.specs.Prelude.{None, ◌<◌, ◌≤◌, ◌^◌, nat_le, nat_lt}
 use Rattle.std.specs.Prelude.{bytes_eq, codes, if◌then◌else◌}
 use Rattle.std.specs.List.{list_all}
 use Rattle.std.specs.Option.{option_map}
 use denote.Ref.{Bor}
+use Rattle.bit_rows.specs.declared.TheConstants.{WIDTH_MAX}
 use Rattle.dram_model.specs.declared.geometry.Geometry.{Geometry}
 use Rattle.dram_model.specs.Geometry.{is_geometry}
 use Rattle.simdram_cli.specs.declared.words.Command.{Command}
@@ -16,6 +17,7 @@ use Rattle.simdram_cli.specs.declared.words.TraceNames.{TraceNames}
 use Rattle.simdram_cli.specs.declared.words.Command.TheVariants.{Replay}
 use Rattle.simdram_cli.specs.declared.words.Command.TheVariants.{Guard}
 use Rattle.simdram_cli.specs.declared.words.Command.TheVariants.{Verify}
+use Rattle.simdram_cli.specs.declared.words.Command.TheVariants.{Optimise}
 use Rattle.simdram_cli.specs.declared.words.GuardNames.{GuardNames}
 use Rattle.simdram_cli.specs.declared.account.Account.{Account}
 use Rattle.simdram_cli.specs.declared.account.Account.TheVariants.{OfProgram}
@@ -94,6 +96,30 @@ abbrev pub verify_on : (ops prog : Bor (List ℕ)) → List ℕ → Option Comma
 verify_on ops prog word = if bytes_eq ops.now prog.now then None
     else option_map (verify_at ops prog) (widths_in word)
 
+-- a word that writes a width
+abbrev pub is_width : List ℕ → Bool
+is_width word =
+    is_number word && (nat_lt 0 (value_of word) && nat_le (value_of word) WIDTH_MAX)
+
+-- a word that writes a number below 2 ^ 64
+abbrev pub is_count : List ℕ → Bool
+is_count word = is_number word && nat_lt (value_of word) (2 ^ 64)
+
+-- `optimise`, where its files are apart, and its other words are a width, a seed and a count
+abbrev pub optimise_on : (ops prog : Bor (List ℕ)) → List ℕ → Bor (List ℕ) → (seed work : List ℕ)
+    → Option Command
+optimise_on ops prog width new seed work =
+    if all_differ (ops.now ∷ prog.now ∷ new.now ∷ [])
+    && (is_width width && (is_count seed && is_count work))
+    then Some (Optimise (record {
+      ops = ops;
+      prog = prog;
+      new = new;
+      width = value_of width;
+      seed = value_of seed;
+      work = value_of work;
+    })) else None
+
 -- `init`, where its numbers are a chip's
 abbrev pub init_on : (banks rows words : List ℕ) → Bor (List ℕ) → Option Command
 init_on banks rows words out =
@@ -134,28 +160,53 @@ command_on_four verb first second third fourth =
     else if bytes_eq verb (codes "exec")
     && inputs_apart first.now second.now third.now fourth.now
     then Some (Exec (record { prog = first; script = second; image = third; out = fourth }))
-    else None
+    else if bytes_eq verb (codes "optimise")
+    then optimise_on first second third.now fourth (codes "1") (codes "50000") else None
+
+-- the command of five words after its own
+abbrev pub command_on_five : List ℕ → (first second third fourth fifth : Bor (List ℕ))
+    → Option Command
+command_on_five verb first second third fourth fifth =
+    if bytes_eq verb (codes "optimise")
+    then optimise_on first second third.now fourth fifth.now (codes "50000")
+    else if bytes_eq verb (codes "run")
+    && are_apart first.now second.now third.now fourth.now fifth.now
+    then Some (Run (record
+    { ops = first; prog = second; script = third; image = fourth; out = fifth }))
+    else trace_on verb (record {
+      prog = first;
+      script = second;
+      image = third;
+      out = fourth;
+      trace = fifth;
+    })
+
+-- the command of six words after its own
+abbrev pub command_on_six : List ℕ → (first second third fourth fifth sixth : Bor (List ℕ))
+    → Option Command
+command_on_six verb first second third fourth fifth sixth =
+    if bytes_eq verb (codes "optimise")
+    then optimise_on first second third.now fourth fifth.now sixth.now
+    else guard_on verb (record {
+      ops = first;
+      prog = second;
+      script = third;
+      image = fourth;
+      flips = fifth;
+      out = sixth;
+    })
 
 -- the command that the words are: `run OPS PROG SCRIPT IMAGE OUT`, `exec PROG SCRIPT IMAGE OUT`,
 -- `compile OPS PROG`, `show OPS`, `migrate OLD NEW`, `cost PROG N`, `list PROG`,
 -- `init BANKS ROWS WORDS OUT`, `soak SEED`, `scan QUERY IMAGE`,
 -- `trace PROG SCRIPT IMAGE OUT TRACE`, `replay TRACE IMAGE OUT`,
--- `guard OPS PROG SCRIPT IMAGE FLIPS OUT` or `verify OPS PROG N`
+-- `guard OPS PROG SCRIPT IMAGE FLIPS OUT`, `verify OPS PROG N` or
+-- `optimise OPS PROG N NEW [SEED] [WORK]`
 abbrev pub command_of : List (Bor (List ℕ)) → Option Command
-command_of (verb ∷ ops ∷ prog ∷ script ∷ image ∷ flips ∷ out ∷ []) =
-    guard_on verb.now (record {
-      ops = ops;
-      prog = prog;
-      script = script;
-      image = image;
-      flips = flips;
-      out = out;
-    })
-command_of (verb ∷ ops ∷ prog ∷ script ∷ image ∷ out ∷ []) =
-    if bytes_eq verb.now (codes "run") && are_apart ops.now prog.now script.now image.now out.now
-    then Some (Run (record { ops = ops; prog = prog; script = script; image = image; out = out }))
-    else trace_on verb.now
-    (record { prog = ops; script = prog; image = script; out = image; trace = out })
+command_of (verb ∷ first ∷ second ∷ third ∷ fourth ∷ fifth ∷ sixth ∷ []) =
+    command_on_six verb.now first second third fourth fifth sixth
+command_of (verb ∷ first ∷ second ∷ third ∷ fourth ∷ fifth ∷ []) =
+    command_on_five verb.now first second third fourth fifth
 command_of (verb ∷ first ∷ second ∷ third ∷ fourth ∷ []) =
     command_on_four verb.now first second third fourth
 command_of (verb ∷ first ∷ second ∷ third ∷ []) =
@@ -182,6 +233,7 @@ IsApart (Trace names) = traced_apart names ≡ true
 IsApart (Replay names) = replay_apart names.trace.now names.image.now names.out.now ≡ true
 IsApart (Guard names) = guard_apart names ≡ true
 IsApart (Verify names) = bytes_eq names.ops.now names.prog.now ≡ false
+IsApart (Optimise names) = all_differ (names.ops.now ∷ names.prog.now ∷ names.new.now ∷ []) ≡ true
 
 -- the numbers of a command are widths, a chip's, or a seed
 abbrev pub HasNumbers : Command → Type 0
@@ -189,4 +241,5 @@ HasNumbers (AccountOf names) = HasWidths names.account
 HasNumbers (Init names) = is_geometry names.geometry ≡ true
 HasNumbers (Soak seed) = seed < 2 ^ 64
 HasNumbers (Verify names) = AreWidths names.widths.items
+HasNumbers (Optimise names) = (0 < names.width) × (names.width ≤ WIDTH_MAX)
 HasNumbers _ = Unit {0}

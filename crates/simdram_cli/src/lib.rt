@@ -12,6 +12,7 @@ mod lines;
 mod load;
 mod migrate;
 mod numbers;
+mod optimise;
 mod perform;
 mod replay;
 mod run;

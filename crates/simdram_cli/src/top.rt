@@ -1,6 +1,7 @@
 //! The top of the program.
 
-ghost use Rattle.std.specs.Prelude.{◌≡◌, ◌↔◌, codes, true, None};
+ghost use Rattle.std.specs.Prelude.{◌≡◌, ◌↔◌, ◌<◌, ◌≤◌, codes, true, None};
+ghost use Rattle.bit_rows.specs.declared.TheConstants.{WIDTH_MAX};
 ghost use Rattle.prog_text.specs.Widths.{AreWidths};
 ghost use Rattle.dram_model.specs.View.{ChipView};
 ghost use Rattle.dram_model.specs.Geometry.{is_geometry};
@@ -18,6 +19,7 @@ ghost use Rattle.simdram_cli.specs.Guard.{guard_plan};
 ghost use Rattle.simdram_cli.specs.Headline.{OneJob};
 ghost use Rattle.simdram_cli.specs.Init.{init_plan};
 ghost use Rattle.simdram_cli.specs.Migrate.{migrate_plan};
+ghost use Rattle.simdram_cli.specs.Optimise.{optimise_plan};
 ghost use Rattle.simdram_cli.specs.Replay.{replay_plan};
 ghost use Rattle.simdram_cli.specs.Run.{run_plan};
 ghost use Rattle.simdram_cli.specs.Scan.{ScanEnds};
@@ -33,6 +35,7 @@ use crate::exec::exec;
 use crate::guard::guard;
 use crate::init::init;
 use crate::migrate::migrate;
+use crate::optimise::optimise;
 use crate::replay::replay;
 use crate::run::run;
 use crate::scan::scan;
@@ -42,7 +45,7 @@ use crate::trace::trace;
 use crate::verify::verify;
 use crate::words::{
     AccountNames, Command, CompileNames, ExecNames, GuardNames, InitNames, MigrateNames,
-    ReplayNames, RunNames, ScanNames, TraceNames, VerifyNames, command_of,
+    OptimiseNames, ReplayNames, RunNames, ScanNames, TraceNames, VerifyNames, command_of,
 };
 use dram_model::Dram;
 use host_edge::{Folder, Sink};
@@ -272,6 +275,23 @@ fn verify_and_answer<F: Folder, S: Sink>(
     answer_verify(ended, out)
 }
 
+/// Optimises, and tells why it stopped if it did.
+fn optimise_and_answer<F: Folder, S: Sink>(
+    names: &OptimiseNames<'_>,
+    files: &mut F,
+    out: &mut S,
+    alloc: Global,
+) -> u8
+    requires some { 0 < names.now.width }
+    requires narrow { names.now.width ≤ WIDTH_MAX }
+    ensures { (chip : ChipView) → EndsBy (optimise_plan names.now)
+        (world (F.view files.old) (S.view out.old) chip)
+        (world (F.view files.new) (S.view out.new) chip) result }
+{
+    let ended = optimise(names, files, out, alloc);
+    answer(ended, out)
+}
+
 /// Does a command.
 fn dispatch<F: Folder, S: Sink, D: Dram>(
     command: &Command<'_>,
@@ -300,6 +320,7 @@ fn dispatch<F: Folder, S: Sink, D: Dram>(
         Command::Replay(names) => replay_and_answer(names, files, out, chip, alloc),
         Command::Guard(names) => guard_and_answer(names, files, out, chip, alloc),
         Command::Verify(names) => verify_and_answer(names, files, out, alloc),
+        Command::Optimise(names) => optimise_and_answer(names, files, out, alloc),
     }
 }
 
@@ -320,8 +341,10 @@ fn dispatch<F: Folder, S: Sink, D: Dram>(
 /// `guard OPS PROG SCRIPT IMAGE FLIPS OUT` runs with each object in three copies, inverts the cells
 /// that FLIPS names, and votes before each instruction and after the last; `verify OPS PROG N` puts
 /// for each operation of OPS whether PROG's entry of its name does it at each width of the list N,
-/// for all values and all contents of the cells and rows at the start. The answer is the exit
-/// status.
+/// for all values and all contents of the cells and rows at the start; `optimise OPS PROG N NEW`
+/// stores as NEW PROG's program with straight lines at the width N where fewer commands are found
+/// that prove right, with a seed and a number of changes after NEW where they are given. The answer
+/// is the exit status.
 pub fn simdram<F: Folder, S: Sink, D: Dram>(
     words: &[&str],
     files: &mut F,

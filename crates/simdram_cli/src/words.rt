@@ -1,6 +1,8 @@
 //! The words of a command.
 
-ghost use Rattle.std.specs.Prelude.{◌≡◌, ◌^◌, [], ◌∷◌};
+ghost use Rattle.std.specs.Prelude.{◌≡◌, ◌^◌, [], ◌∷◌, true};
+ghost use Rattle.std.specs.Option.{SomeIff};
+ghost use Rattle.simdram_cli.specs.Numbers.{value_of};
 ghost use Rattle.simdram_cli.specs.Words.{all_differ, are_apart, command_of, command_on_four};
 ghost use Rattle.simdram_cli.specs.Words.{command_on_one, inputs_apart};
 ghost use Rattle.simdram_cli.specs.Words.{command_on_two, cost_on, init_on, soak_on};
@@ -8,6 +10,7 @@ ghost use Rattle.simdram_cli.specs.Words.{verify_on};
 ghost use Rattle.simdram_cli.specs.Words.{traced_apart, trace_on};
 ghost use Rattle.simdram_cli.specs.Words.{command_on_three, replay_apart};
 ghost use Rattle.simdram_cli.specs.Words.{guard_apart, guard_on};
+ghost use Rattle.simdram_cli.specs.Words.{command_on_five, command_on_six, is_width, optimise_on};
 
 use crate::account::{Account, ProgramAccount, account_named};
 use crate::numbers::{number_of, seed_of};
@@ -138,6 +141,18 @@ pub struct VerifyNames<'a> {
     pub widths: Widths,
 }
 
+/// The files of `optimise`, its width, where its generator begins, and how many changes it tries
+/// for each command.
+#[derive(Clone, Copy)]
+pub struct OptimiseNames<'a> {
+    pub ops: &'a str,
+    pub prog: &'a str,
+    pub new: &'a str,
+    pub width: u8,
+    pub seed: u64,
+    pub work: u64,
+}
+
 /// A command, with its words.
 #[derive(Drop)]
 pub enum Command<'a> {
@@ -153,6 +168,7 @@ pub enum Command<'a> {
     Replay(ReplayNames<'a>),
     Guard(GuardNames<'a>),
     Verify(VerifyNames<'a>),
+    Optimise(OptimiseNames<'a>),
 }
 
 /// Whether no two of four names are equal.
@@ -260,6 +276,49 @@ fn verify_on<'a>(ops: &'a str, prog: &'a str, word: &str) -> Option<Command<'a>>
     }
 }
 
+/// The width that a word writes, if it is one.
+fn width_of(word: &str) -> Option<u8>
+    ensures { SomeIff result (is_width word.now ≡ true) (value_of word.now) }
+{
+    match number_of(word) {
+        Some(width) if 0 < width && width <= u16::from(WIDTH_MAX) => Some(width as u8),
+        _ => None,
+    }
+}
+
+/// The command `optimise`, if its files are apart and its numbers are a width, a seed and a count.
+fn optimise_on<'a>(
+    ops: &'a str,
+    prog: &'a str,
+    width: &str,
+    new: &'a str,
+    seed: &str,
+    work: &str,
+) -> Option<Command<'a>>
+    ensures { result ≡ optimise_on ops.entry prog.entry width.now new.entry seed.now work.now }
+{
+    if !three_differ(ops, prog, new) {
+        return None;
+    }
+    let Some(width) = width_of(width) else {
+        return None;
+    };
+    let Some(seed) = seed_of(seed) else {
+        return None;
+    };
+    let Some(work) = seed_of(work) else {
+        return None;
+    };
+    Some(Command::Optimise(OptimiseNames {
+        ops,
+        prog,
+        new,
+        width,
+        seed,
+        work,
+    }))
+}
+
 /// The command `soak`, if its number is a seed.
 fn soak_on<'a>(seed: &str) -> Option<Command<'a>>
     ensures { result ≡ soak_on seed.now }
@@ -309,6 +368,8 @@ fn command_on_four<'a>(
             image: third,
             out: fourth,
         }))
+    } else if verb == "optimise" {
+        optimise_on(first, second, third, fourth, "1", "50000")
     } else {
         None
     }
@@ -387,43 +448,79 @@ fn guard_on<'a>(verb: &str, names: GuardNames<'a>) -> Option<Command<'a>>
     }
 }
 
+/// The command of five words after its own.
+fn command_on_five<'a>(
+    verb: &str,
+    first: &'a str,
+    second: &'a str,
+    third: &'a str,
+    fourth: &'a str,
+    fifth: &'a str,
+) -> Option<Command<'a>>
+    ensures { result ≡ command_on_five verb.now first.entry second.entry third.entry fourth.entry
+        fifth.entry }
+{
+    if verb == "optimise" {
+        optimise_on(first, second, third, fourth, fifth, "50000")
+    } else if verb == "run" && are_apart(first, second, third, fourth, fifth) {
+        Some(Command::Run(RunNames {
+            ops: first,
+            prog: second,
+            script: third,
+            image: fourth,
+            out: fifth,
+        }))
+    } else {
+        trace_on(
+            verb,
+            TraceNames {
+                prog: first,
+                script: second,
+                image: third,
+                out: fourth,
+                trace: fifth,
+            },
+        )
+    }
+}
+
+/// The command of six words after its own.
+fn command_on_six<'a>(
+    verb: &str,
+    first: &'a str,
+    second: &'a str,
+    third: &'a str,
+    fourth: &'a str,
+    fifth: &'a str,
+    sixth: &'a str,
+) -> Option<Command<'a>>
+    ensures { result ≡ command_on_six verb.now first.entry second.entry third.entry fourth.entry
+        fifth.entry sixth.entry }
+{
+    if verb == "optimise" {
+        return optimise_on(first, second, third, fourth, fifth, sixth);
+    }
+    let names = GuardNames {
+        ops: first,
+        prog: second,
+        script: third,
+        image: fourth,
+        flips: fifth,
+        out: sixth,
+    };
+    guard_on(verb, names)
+}
+
 /// The command that the words are.
 pub fn command_of<'a>(words: &[&'a str]) -> Option<Command<'a>>
     ensures { result ≡ command_of words.now }
 {
     match words {
-        [verb, ops, prog, script, image, flips, out] => {
-            let names = GuardNames {
-                ops: *ops,
-                prog: *prog,
-                script: *script,
-                image: *image,
-                flips: *flips,
-                out: *out,
-            };
-            guard_on(*verb, names)
-        }
-        [verb, ops, prog, script, image, out] => {
-            if *verb == "run" && are_apart(ops, prog, script, image, out) {
-                Some(Command::Run(RunNames {
-                    ops: *ops,
-                    prog: *prog,
-                    script: *script,
-                    image: *image,
-                    out: *out,
-                }))
-            } else {
-                trace_on(
-                    *verb,
-                    TraceNames {
-                        prog: *ops,
-                        script: *prog,
-                        image: *script,
-                        out: *image,
-                        trace: *out,
-                    },
-                )
-            }
+        [verb, first, second, third, fourth, fifth, sixth] => command_on_six(
+            *verb, *first, *second, *third, *fourth, *fifth, *sixth,
+        ),
+        [verb, first, second, third, fourth, fifth] => {
+            command_on_five(*verb, *first, *second, *third, *fourth, *fifth)
         }
         [verb, first, second, third, fourth] => {
             command_on_four(*verb, *first, *second, *third, *fourth)

@@ -33,11 +33,17 @@ HOLDS = {
 
 @dataclasses.dataclass(frozen=True)
 class Word:
-    """An argument of a command: its name in help, what it is, and whether the command writes it."""
+    """An argument of a command: its name in help, what it is, whether the command writes it, and whether it may be left out."""
 
     name: str
     kind: str
     is_written: bool = False
+    is_optional: bool = False
+
+    @property
+    def form(self) -> str:
+        """The argument in a command line."""
+        return f"[{self.name}]" if self.is_optional else self.name
 
     @property
     def is_file(self) -> bool:
@@ -62,7 +68,12 @@ class Command:
 
     def usage(self) -> str:
         """The command line, with a name for each argument."""
-        return self.form or " ".join([self.name, *(word.name for word in self.words)])
+        return self.form or " ".join([self.name, *(word.form for word in self.words)])
+
+    def has_all(self, count: int) -> bool:
+        """Whether so many arguments may be all of the command's."""
+        needed = sum(not word.is_optional for word in self.words)
+        return needed <= count <= len(self.words)
 
 
 OPS = Word("OPS", "ops")
@@ -83,6 +94,10 @@ PROGRAM = (
             "cost mac.prog 8,16-32"),
     Command("verify", (OPS, PROG, Word("N", "width")), "whether the entries of PROG do the ops of OPS at width N, or at each of several, "
             "for all numbers and whatever the cells hold", "verify mac.ops mac.prog 1-128"),
+    Command("optimise", (OPS, PROG, Word("N", "one width"), Word("NEW", "program", True), Word("SEED", "walk", is_optional=True),
+                         Word("WORK", "work", is_optional=True)),
+            "writes a program of fewer row commands at width N, found by a search and each entry checked as by verify; at other widths it "
+            "is PROG's", "optimise mac.ops mac.prog 8 mac8.prog"),
     Command("show", (OPS,), "prints the text in its canonical form, or its first fault", "show mac.ops"),
     Command("list", (PROG,), "prints the microprograms of a program file, instruction by instruction", "list mac.prog"),
     Command("scan", (Word("QUERY", "query"), IMAGE), "counts the elements that match a query, by comparisons inside the chip",

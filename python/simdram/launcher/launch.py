@@ -59,7 +59,7 @@ def tell_unread(command: Command, words: list[str]) -> None:
 def launch(words: list[str], settings: Settings) -> int:
     """Runs a command of the program."""
     command = ALL.get(words[0]) if words else None
-    is_whole = command is not None and command.is_program and len(words) == 1 + len(command.words)
+    is_whole = command is not None and command.is_program and command.has_all(len(words) - 1)
     refusal = overwrite.refusal(command, words[1:]) if is_whole and not settings.force else None
     wrong = wrong_words(words)
     if wrong:

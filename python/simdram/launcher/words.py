@@ -21,10 +21,13 @@ class Number(typing.NamedTuple):
 
 NUMBERS = {
     "width": Number(1, 128, "the width", "of the operands in bits, 1 to 128, or several, as 1-128 and 4,8,16-32"),
+    "one width": Number(1, 128, "the width", "of the operands in bits, 1 to 128"),
     "banks": Number(1, 16, "the number of banks", "of the chip, 1 to 16"),
     "rows": Number(64, 1006, "the number of rows", "in a bank, 64 to 1006; the last 32 are reserved for spilled values"),
     "words": Number(1, 1024, "the number of words in a row", "of 64 bits, 1 to 1024: a row has a column for each of their bits"),
     "seed": Number(0, 2**64 - 1, "the seed", "of the random numbers, 0 to 2^64 - 1"),
+    "walk": Number(0, 2**64 - 1, "the seed", "of the search, 0 to 2^64 - 1; 1 if it is left out"),
+    "work": Number(0, 2**64 - 1, "the number of changes", "that the search tries for each command, 0 to 2^64 - 1; 50000 if it is left out"),
 }
 WORDS_MAX = 2**23
 PLACES = ("first", "second", "third", "fourth", "fifth", "sixth")
@@ -89,7 +92,7 @@ def parser_of(command: Command) -> WordsParser:
     made = WordsParser(prog=f"simdram {command.name}", description=command.says, add_help=False, formatter_class=argparse.RawTextHelpFormatter,
                        epilog=f"  simdram {command.example}\n\ndocs/FORMATS.md, How a command ends, has its statuses.")
     for word in command.words:
-        made.add_argument(word.name, type=functools.partial(checked, word.kind), help=help_on(word))
+        made.add_argument(word.name, type=functools.partial(checked, word.kind), help=help_on(word), nargs="?" if word.is_optional else None)
     return made
 
 
