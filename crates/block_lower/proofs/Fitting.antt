@@ -90,10 +90,10 @@ module _ (reads writes : List Place) (g : Graph) (outs : List Lit) (h : Graph) (
   }
 
 -- where no body is made of a graph that may stand for another, none is made of that
-pub unfit-first : (reads writes : List Place) (g : Graph) (outs : List Lit) (h : Graph)
+pub unfit_first : (reads writes : List Place) (g : Graph) (outs : List Lit) (h : Graph)
     (made : List Lit) → KeepsOutputs g outs h made → AreNamed h made
     → length h.nodes ≤ length g.nodes → IsUnfit reads writes h made → IsUnfit reads writes g outs
-unfit-first reads writes g outs h made keeps named count u = record {
+unfit_first reads writes g outs h made keeps named count u = record {
   rows = own reads writes g outs h made keeps named count u.rows u.are;
   are = own_rows reads writes g outs h made keeps named count u.rows u.are;
   unfit = λ f. u.unfit (still_fit reads writes g outs h made keeps named count u.rows u.are f);

@@ -31,7 +31,7 @@ use Rattle.loop_front.proofs.Bodies.{known_reads, known_writes, small_registers,
 use Rattle.loop_front.proofs.Bodies.{values_registers, stays_registers}
 use Rattle.std.proofs.lemmas.List.{length-map}
 use Rattle.std.proofs.lemmas.List.Sums.{sum_by-cons}
-use Rattle.loop_ir.specs.declared.ir.Sub.TheVariants.{Zero}
+use Rattle.loop_ir.specs.declared.ir.Sub.TheVariants.{Zero, Inner, InnerDown, Register}
 use Rattle.loop_front.specs.FlowOfSteps.{IsFlowOf}
 use Rattle.loop_front.proofs.Runs.{front_runs}
 
@@ -231,7 +231,10 @@ put_size (m ∷ ms) k = let h = put_size ms k in omega (arith, h)
 
 -- a subscript takes at most two moves
 two_moves : (s : Sub) (r : ℕ) → length (start s r) + length (before s r) + length (after s r) ≤ 2
-two_moves s r = omega arith
+two_moves Zero r = omega arith
+two_moves Inner r = omega arith
+two_moves InnerDown r = omega arith
+two_moves (Register q) r = omega arith
 
 all_moves : (ss : List Sub) (r : ℕ) → length (each_sub start ss r) + length (each_sub before ss r)
     + length (each_sub after ss r) ≤ 2 * length ss
