@@ -105,9 +105,9 @@ pub left-own : (reads writes : List Place) (g : Graph) (outs : List Lit) (h : Gr
     → AreFor reads writes h made h made cmds
 left-own reads writes g outs h made cmds (inl f) = inl f
 left-own reads writes g outs h made cmds (inr l) = inr (record {
-  unfit = subst (λ x. IsUnfit reads writes x made) (sym l.graph)
-      (subst (IsUnfit reads writes g) (sym l.outs) l.unfit);
-  graph = refl;
-  outs = refl;
+  unfit = subst (λ x. IsUnfit reads writes x made) (sym l.same)
+      (subst (IsUnfit reads writes g) (sym l.same_outs) l.unfit);
+  same = refl;
+  same_outs = refl;
   none = l.none;
 })

@@ -57,8 +57,8 @@ pub record IsUnfit (reads writes : List Place) (g : Graph) (outs : List Lit) : T
 pub record IsLeft (reads writes : List Place) (g : Graph) (outs : List Lit) (h : Graph)
     (made : List Lit) (cmds : List BodyCmd) : Type 0 where
   pub unfit : IsUnfit reads writes g outs
-  pub graph : h ≡ g
-  pub outs : made ≡ outs
+  pub same : h ≡ g
+  pub same_outs : made ≡ outs
   pub none : cmds ≡ []
 
 -- the commands were found for the body of the second graph, which stands for the first; or no body

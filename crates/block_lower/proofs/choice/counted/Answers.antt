@@ -1,11 +1,21 @@
-use Rattle.std.proofs.Common.{rules, ◌≡◌, ◌⊎◌, ◌<◌, ◌≤◌, IsTrue, IfOk, IfSome, IfNone, Some, length, map, slice_get, ℕ, ◌+◌, ◌-◌, ◌*◌, ◌/◌, ◌%◌, Bool, true, false, nat_eq, nat_lt, List, [], ◌∷◌, ◌++◌, slice_index_or, slice_set, bit_and, bit_or, Fits, w8, w32, w64, Bor, MutBor}
-use Rattle.std.specs.List.{AllByRecursion}
-use Rattle.mig_graph.specs.Outputs.{AreNamed}
-use Rattle.mig_graph.specs.Reduced.{IsReduced}
-use Rattle.loop_ir.specs.Plain.{block_of}
-use Rattle.block_lower.specs.Choice.{AreCounted, AreFor, AreNoFewer, HasFound, HasNoMore, IsCounted, IsDropped, IsFewest, IsNoDearer, IsRightChoice, IsUnfit, MayStand, sketch_of}
+use Rattle.std.proofs.Common.{◌≤◌, length, subst, inr, IfSome}
+use Rattle.mig_graph.specs.Outputs.{AreNamed, KeepsOutputs}
+use Rattle.block_lower.proofs.Counting.{told-none}
+use Rattle.block_lower.proofs.Fitting.{unfit_first}
 use Rattle.block_lower.proofs.choice.counted.Goals as goal
 
--- src/choice.rt:102:9
+-- no body is made of a right offer only where none is made of the graph itself
 pub returns-in_default-2-clause-none : goal.returns-in_default-2-clause-none
-returns-in_default-2-clause-none c = ?
+returns-in_default-2-clause-none c =
+    let g = c.args.first.now.mig in
+    let outs = c.args.first.now.outs.items in
+    let h = c.in-Some.graph in
+    let is = c.in-Some.is in
+    let kept = c.in_ok-kept.ensures in
+    let keeps = subst (λ o. IfSome o (λ r. KeepsOutputs g outs r.mig r.outs.items)) is kept.keeps in
+    let named = subst (λ o. IfSome o (λ r. AreNamed r.mig r.outs.items)) is kept.named in
+    let count = subst (λ o. IfSome o (λ r. length r.mig.nodes ≤ length g.nodes)) is kept.count in
+    let unfit = told-none c.in_ok-found_for.field-0 c.in_ok-found_for.ensures.none
+    c.in_default-2.not-Some in
+    λ right. inr (unfit_first c.args.reads.now c.args.writes.now g outs h.mig h.outs.items keeps named
+    count unfit)
