@@ -61,18 +61,24 @@ module _ (reads writes : List Place) (g : Graph) (outs : List Lit) (h : Graph) (
   below_rows : (j : ℕ) → j < length own → j < length rows
   below_rows j lt = omega (arith, lt, own_long, long)
 
-  same : (j : ℕ) → j < length own → (out_at own j).same ≡ (out_at rows j).same
-  same j lt = relit_same outs rows long j (below j lt)
+  same_row : (j : ℕ) → j < length own → (out_at own j).same ≡ (out_at rows j).same
+  same_row j lt = relit_same outs rows long j (below j lt)
+
+  own_input : (k : ℕ) → k < h.inputs → k < g.inputs
+  own_input k lt = let i = keeps.inputs in omega (arith, lt, i)
+
+  its_input : (k : ℕ) → k < g.inputs → k < h.inputs
+  its_input k lt = let i = keeps.inputs in omega (arith, lt, i)
 
   own_rows : AreRows reads writes g.inputs outs (length outs) own
   own_rows = record {
     size = own_long;
     lits = λ j lt. relit_lit outs rows long j (below j lt);
-    found = λ j k lt e. let f = are.found j k (below_rows j lt) (sym (same j lt) ∙ e) in
-        (let m = f.0 in let i = keeps.inputs in omega (arith, m, i), f.1);
-    first = λ i j k lt e. are.first i j k (below_rows j lt) (sym (same j lt) ∙ e);
-    none = λ j lt e k lk. are.none j (below_rows j lt) (sym (same j lt) ∙ e) k
-        (let i = keeps.inputs in omega (arith, lk, i));
+    found = λ j k lt e. let f = are.found j k (below_rows j lt) (sym (same_row j lt) ∙ e) in
+        (own_input k f.0, f.1);
+    first = λ i j k lt e. are.first i j k (below_rows j lt) (sym (same_row j lt) ∙ e);
+    none = λ j lt e k lk. are.none j (below_rows j lt) (sym (same_row j lt) ∙ e) k
+        (its_input k lk);
   }
 
   still_fit : FitBody g own → FitBody h rows
@@ -85,8 +91,8 @@ module _ (reads writes : List Place) (g : Graph) (outs : List Lit) (h : Graph) (
     same = λ j k lt e. (are.found j k lt e).0;
     once = λ i j k li lj e d. f.once i j k (omega (arith, li, own_long, long))
         (omega (arith, lj, own_long, long))
-        (same i (omega (arith, li, own_long, long)) ∙ e)
-        (same j (omega (arith, lj, own_long, long)) ∙ d);
+        (same_row i (omega (arith, li, own_long, long)) ∙ e)
+        (same_row j (omega (arith, lj, own_long, long)) ∙ d);
   }
 
 -- where no body is made of a graph that may stand for another, none is made of that
