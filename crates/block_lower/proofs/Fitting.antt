@@ -46,7 +46,7 @@ module _ (reads writes : List Place) (g : Graph) (outs : List Lit) (h : Graph) (
     (keeps : KeepsOutputs g outs h made) (named : AreNamed h made)
     (count : length h.nodes ≤ length g.nodes) (rows : List OutRow)
     (are : AreRows reads writes h.inputs made (length made) rows) where
-  own : List OutRow
+  abbrev own : List OutRow
   own = relit outs rows
 
   long : length rows ≡ length outs
