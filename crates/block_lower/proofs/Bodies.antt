@@ -1,25 +1,20 @@
 -- Code can be made of a body of a block.
 use Rattle.std.proofs.Common.{◌≡◌, ℕ, zero, suc, ◌+◌, ◌<◌, ◌≤◌, Bool, true, false, List, [], ◌∷◌}
-use Rattle.std.proofs.Common.{◌++◌, map, filter, length, refl, sym, ap, ◌∙◌, subst, arith, ◌⊎◌, inl}
-use Rattle.std.proofs.Common.{inr}
-use Rattle.std.specs.Prelude.{◌||◌, not}
-use Rattle.std.specs.List.{list_all, list_any}
-use Rattle.std.proofs.lemmas.Bool.{cases_Bool, or_parts, or_from, and_parts, and_from, not-true}
+use Rattle.std.proofs.Common.{◌++◌, map, length, refl, sym, ap, ◌∙◌, subst, arith, ◌⊎◌, inl, inr}
+use Rattle.std.specs.List.{list_all}
+use Rattle.std.proofs.lemmas.Bool.{cases_Bool, and_from}
 use Rattle.mig_graph.specs.Graph.{IsGraph}
 use Rattle.mig_graph.specs.Outputs.{lit_at}
 use Rattle.row_alloc.specs.declared.body.BodyCmd.{BodyCmd}
 use Rattle.op_text.specs.Language.{Block, Visit}
 use Rattle.loop_ir.specs.declared.ir.Sub.{Sub}
-use Rattle.loop_ir.specs.declared.ir.Sub.TheVariants.{Zero, Top, Inner as At_inner, InnerDown}
-use Rattle.loop_ir.specs.declared.ir.Sub.TheVariants.{Outer, OuterDown, Sum, DownSum, DownPlusN}
-use Rattle.loop_ir.specs.declared.ir.Sub.TheVariants.{NPlusInner}
+use Rattle.loop_ir.specs.declared.ir.Sub.TheVariants.{Zero}
 use Rattle.loop_ir.specs.declared.ir.Place.{Place}
 use Rattle.loop_ir.specs.Plain.{Block as Body}
 use Rattle.loop_ir.specs.Loops.{RoundOf, sub_value}
 use Rattle.loop_ir.specs.Spots.{Spot, IsOwn, is_state, spot_in, spot_at, nth_place, nth_spot}
 use Rattle.loop_ir.specs.WellFormed.{IsOneValue, IsWellFormed}
 use Rattle.loop_ir.specs.States.{StatesFit, RowsFirst, row_count}
-use Rattle.loop_ir.specs.Costs.{same_sub, is_used, used_subs}
 use Rattle.loop_ir.specs.Limits.{HasCommands, IsSmall, IsRound, HasValues}
 use Rattle.loop_ir.specs.Statements.{Slots, targets_of}
 use Rattle.loop_ir.specs.Lowered.{IsStatementRow}
@@ -48,33 +43,6 @@ all-names test from to h k [] (y ∷ ys) = and_from (test (to y)) _ (k y) (all-n
 all-names test from to h k (x ∷ xs) ys = and_from (test (from x)) _ (h x)
     (all-names test from to h k xs ys)
 
-any-none : (test : Place → Bool) (ps : List Place) → list_all (λ p. not (test p)) ps ≡ true
-    → list_any test ps ≡ false
-any-none test [] h = refl
-any-none test (p ∷ ps) h = let k = and_parts (not (test p)) (list_all (λ p. not (test p)) ps) h in
-    or_from (test p) (list_any test ps) (not-true (test p) k.0) (any-none test ps k.1)
-
-filter-less : (p q : Sub → Bool) (xs : List Sub) → ((s : Sub) → p s ≡ true → q s ≡ true)
-    → length (filter p xs) ≤ length (filter q xs)
-filter-less p q [] h = omega arith
-filter-less p q (s ∷ xs) h =
-    let m = filter-less p q xs h in
-    elim (cases_Bool (p s)) [
-      | inl e ↦ rw (e, h s e) (omega (arith, m))
-      | inr e ↦ elim (cases_Bool (q s)) [
-        | inl f ↦ rw (e, f) (omega (arith, m))
-        | inr f ↦ rw (e, f) m
-      ]
-    ]
-
--- those that the places of a body with this subscript use
-abbrev pub uses : Sub → Sub → Bool
-uses t s = same_sub t s || same_sub Zero s
-
-abbrev pub others : List Sub
-others = Top ∷ At_inner ∷ InnerDown ∷ Outer ∷ OuterDown ∷ Sum ∷ DownSum ∷ DownPlusN
-    ∷ NPlusInner ∷ []
-
 module _ {slots : Slots} {b : Block} {from to : List ℕ → Place} {c : Body} {t : Sub}
     (d : DoesAt slots b from to c) (rs : HasSub from t) (ws : HasSub to t) where
   pub all-subs : (test : Sub → Bool) → test Zero ≡ true → test t ≡ true
@@ -85,24 +53,9 @@ module _ {slots : Slots} {b : Block} {from to : List ℕ → Place} {c : Body} {
       ∙ all-names (λ (p : Place). test p.sub) from to (at-sub from rs test true z o)
       (at-sub to ws test true z o) (block_inputs b) (targets_of b.assigns)
 
-  no-subs : (test : Sub → Bool) → test Zero ≡ false → test t ≡ false
-      → list_any (λ (p : Place). test p.sub) (c.reads ++ c.writes) ≡ false
-  no-subs test z o = any-none (λ (p : Place). test p.sub) (c.reads ++ c.writes)
-      (all-subs (λ v. not (test v)) (ap not z) (ap not o))
-
-  subs-few : length (filter (uses t) others) ≤ 3 → length (used_subs c) ≤ 3
-  subs-few few =
-      let f = filter-less (is_used c) (uses t) others (λ s e. elim (cases_Bool (uses t s)) [
-        | inl u ↦ u
-        | inr u ↦
-            let h = or_parts (same_sub t s) (same_sub Zero s) u in
-            let n = no-subs (λ v. same_sub v s) h.1 h.0 in absurd (cc)
-      ]) in
-      omega (arith, f, few)
-
-  pub body-small : {fb fw : ℕ} → Given slots fb fw b → length (filter (uses t) others) ≤ 3
-      → IsWellFormed c → StatesFit c → HasCommands c → length (block_inputs b) ≤ 80 → IsSmall c
-  body-small g few well states commands most =
+  pub body-small : {fb fw : ℕ} → Given slots fb fw b → IsWellFormed c → StatesFit c → HasCommands c
+      → length (block_inputs b) ≤ 80 → IsSmall c
+  body-small g well states commands most =
       let m = d.like.as_many in
       let a = g.meets.assigns in
       let w = g.meets.weight in
@@ -115,7 +68,6 @@ module _ {slots : Slots} {b : Block} {from to : List ℕ → Place} {c : Body} {
         inputs = let i = d.like.inputs in omega (arith, i, most);
         outputs = omega (arith, m, a);
         rows = omega (arith, m, a, w, k);
-        subs = subs-few few;
       }
 
 -- its rounds
@@ -126,18 +78,18 @@ module _ {slots : Slots} {fb fw : ℕ} {b : Block} (g : Given slots fb fw b) {a 
   p = position b.down n i
 
   had : (y : Away b) (x : List ℕ) → IsNamed b x → (q : Place)
-      → spot_at n r.i r.o r.regs q ≡ stand y slots n p x → is_state q.space ≡ false
-      → IsStatementRow slots fb fw (Visit b) n (spot_at n r.i r.o r.regs q)
+      → spot_at n r.i r.regs q ≡ stand y slots n p x → is_state q.space ≡ false
+      → IsStatementRow slots fb fw (Visit b) n (spot_at n r.i r.regs q)
   had y x e q f s = subst (IsStatementRow slots fb fw (Visit b) n) (sym f)
       (stand-had g y n p x (below g t lt) e (ap (λ (q : Spot). is_state q.space) (sym f)
-      ∙ ap is_state (spot-space n q.space q.which (sub_value n r.i r.o r.regs q.sub)) ∙ s))
+      ∙ ap is_state (spot-space n q.space q.which (sub_value n r.i r.regs q.sub)) ∙ s))
 
   pub turn-round : IsRound (IsStatementRow slots fb fw (Visit b) n) n r
   turn-round =
       let lw = writes-long t.does in
       let lr = reads-long t.does in
       let both = λ (j k : ℕ) (lj : j < length b.assigns) (lk : k < length (block_inputs b))
-      (e : nth_spot n r.i r.o r.regs r.part.writes j ≡ nth_spot n r.i r.o r.regs r.part.reads k).
+      (e : nth_spot n r.i r.regs r.part.writes j ≡ nth_spot n r.i r.regs r.part.reads k).
       stand-once g a z n p (target b j) (input b k) (below g t lt) (target-named b j lj)
       (input-at b k lk) (sym (write-row g t lt j lj) ∙ e ∙ read-row g t lt k lk) in
       record {
@@ -172,7 +124,7 @@ module _ {slots : Slots} {fb fw : ℕ} {b : Block} (g : Given slots fb fw b) {a 
 pub round-values : (may_have : ℕ → Spot → Type 0) (r : RoundOf Body) → IsRound (may_have 1) 1 r
     → HasValues may_have r.part
 round-values may_have r h =
-    let v = λ (p : Place). sub_value 1 r.i r.o r.regs p.sub in
+    let v = λ (p : Place). sub_value 1 r.i r.regs p.sub in
     record {
       reads = λ k l s. (1, v (nth_place r.part.reads k), h.reads k l s);
       writes = λ j l s. (1, v (nth_place r.part.writes j), h.writes j l s);
@@ -187,10 +139,10 @@ module _ {slots : Slots} {fb fw : ℕ} {b : Block} (g : Given slots fb fw b) {a 
   round = turn-round g t (omega arith)
 
   abbrev low : Sub → ℕ
-  low s = sub_value 1 r.i r.o r.regs s
+  low s = sub_value 1 r.i r.regs s
 
   one-spot : (p q : Place) → low p.sub ≡ 0 → low q.sub ≡ 0 → IsOneValue p q
-      → spot_at 1 r.i r.o r.regs p ≡ spot_at 1 r.i r.o r.regs q
+      → spot_at 1 r.i r.regs p ≡ spot_at 1 r.i r.regs q
   one-spot p q u v e = ap (λ s. spot_in 1 s p.which (low p.sub)) e.0
       ∙ ap (λ w. spot_in 1 q.space w (low p.sub)) e.1 ∙ ap (spot_in 1 q.space q.which) (u ∙ sym v)
 
@@ -267,8 +219,8 @@ module _ (v : Bool) (p : Place) (cmds : List BodyCmd) where
     same = λ j k lj lk e. absurd (omega (arith, lk));
   }
 
-  pub lone-small : p.sub ≡ Zero → HasCommands (lone v p cmds) → IsSmall (lone v p cmds)
-  lone-small e commands = record {
+  pub lone-small : HasCommands (lone v p cmds) → IsSmall (lone v p cmds)
+  lone-small commands = record {
     well = lone-well;
     states = record {
       first = rows-first (p ∷ []) (omega arith);
@@ -280,17 +232,16 @@ module _ (v : Bool) (p : Place) (cmds : List BodyCmd) where
     inputs = omega arith;
     outputs = omega arith;
     rows = omega arith;
-    subs = rw e (omega arith);
   }
 
   pub lone-turn : (may_have : Spot → Type 0) (n : ℕ) (regs : List ℕ)
-      → (is_state p.space ≡ false → may_have (spot_at n 0 0 regs p))
-      → IsOwn (spot_at n 0 0 regs p).space → IsRound may_have n (lone_round v p cmds regs)
+      → (is_state p.space ≡ false → may_have (spot_at n 0 regs p))
+      → IsOwn (spot_at n 0 regs p).space → IsRound may_have n (lone_round v p cmds regs)
   lone-turn may_have n regs row own = record {
     reads = λ k l s. absurd (omega (arith, l));
     writes = only (λ j. is_state (nth_place (p ∷ []) j).space ≡ false
-        → may_have (nth_spot n 0 0 regs (p ∷ []) j)) row;
-    own = only (λ j. IsOwn (nth_spot n 0 0 regs (p ∷ []) j).space) own;
+        → may_have (nth_spot n 0 regs (p ∷ []) j)) row;
+    own = only (λ j. IsOwn (nth_spot n 0 regs (p ∷ []) j).space) own;
     apart = λ i j li lj e. omega (arith, li, lj);
     same = λ j k lj lk e. absurd (omega (arith, lk));
     once = λ j k l lj lk ll e f. absurd (omega (arith, lk));

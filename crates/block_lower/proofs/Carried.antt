@@ -134,7 +134,7 @@ module _ (b : Body) (well : IsWellFormed b) (inputs : b.graph.inputs ≤ 80)
             );
       }
 
-  pub is-found : AreFor b.reads b.writes b.graph b.outs b.found
+  pub is-found : AreFor b.reads b.writes b.graph b.outs b.graph b.outs b.found
       → HasFound b.reads b.writes b.graph b.outs b.found
   is-found (inl h) = h
-  is-found (inr u) = absurd (let n = u.1 in n.unfit (fit n.rows n.are))
+  is-found (inr u) = absurd (let n = u.unfit in n.unfit (fit n.rows n.are))

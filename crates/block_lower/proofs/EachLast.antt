@@ -22,7 +22,7 @@ regs_at i m = i ∷ m ∷ 0 ∷ 0 ∷ 0 ∷ 0 ∷ 0 ∷ 0 ∷ []
 
 -- the round of a body there
 abbrev pub round_with : {A : Type 0} → A → ℕ → ℕ → RoundOf A
-round_with b i m = record { part = b; i = 0; o = 0; regs = regs_at i m }
+round_with b i m = record { part = b; i = 0; regs = regs_at i m }
 
 -- the rounds from a position on
 abbrev pub from_on : {A : Type 0} → A → A → ℕ → ℕ → List (RoundOf A)

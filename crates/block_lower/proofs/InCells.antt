@@ -1,6 +1,6 @@
 -- The loop of a block with its one state in cells does the block, within its ceilings.
 use Rattle.std.proofs.Common.{◌≡◌, ℕ, zero, suc, ◌+◌, ◌*◌, ◌<◌, ◌≤◌, Bool, true, false, cond, List}
-use Rattle.std.proofs.Common.{[], ◌∷◌, map, filter, length, Option, Some, None, refl, sym, ap, ◌∙◌}
+use Rattle.std.proofs.Common.{[], ◌∷◌, map, length, Option, Some, None, refl, sym, ap, ◌∙◌}
 use Rattle.std.proofs.Common.{subst, arith, append-nil, fold, ◌⊎◌, inl, inr}
 use Rattle.std.specs.Prelude.{◌==◌, ◌&&◌}
 use Rattle.std.specs.List.{AllByRecursion, list_any, list_all}
@@ -55,7 +55,7 @@ use Rattle.block_lower.proofs.Visits.{DoesAt, does-at, row_place, IsTurn, Stands
 use Rattle.block_lower.proofs.Visits.{one-visit, writes-long, write-place}
 use Rattle.block_lower.proofs.Starts.{lone-does, started, begins}
 use Rattle.block_lower.proofs.Ends.{does-block}
-use Rattle.block_lower.proofs.Bodies.{HasSub, uses, others, all-subs, body-small, turn-round}
+use Rattle.block_lower.proofs.Bodies.{HasSub, all-subs, body-small, turn-round}
 use Rattle.block_lower.proofs.Bodies.{turn-well, round-values, at-count, rows-first, lone-well}
 use Rattle.block_lower.proofs.Bodies.{lone-small, lone-turn}
 use Rattle.block_lower.proofs.InRows.{one-value, name-row, place-sub, within-ceiling}
@@ -80,11 +80,7 @@ either-sub w s false p h = h
 abbrev flow_sub : Bool → Sub
 flow_sub down = in_register (kind_sub down Word)
 
-uses-few : (down : Bool) → length (filter (uses (flow_sub down)) others) ≤ 3
-uses-few true = omega arith
-uses-few false = omega arith
-
-low-sub : (down : Bool) → sub_value 1 0 0 (regs_at 0 0) (flow_sub down) ≡ 0
+low-sub : (down : Bool) → sub_value 1 0 (regs_at 0 0) (flow_sub down) ≡ 0
 low-sub true = refl
 low-sub false = refl
 
@@ -94,15 +90,15 @@ register-stays named a c true = c
 register-stays named a c false = a
 
 flow-index : (n i m : ℕ) → i + m + 1 ≡ n → (down : Bool) (k : Kind)
-    → sub_value n 0 0 (regs_at i m) (in_register (kind_sub down k))
-    ≡ sub_value n i 0 [] (kind_sub down k)
+    → sub_value n 0 (regs_at i m) (in_register (kind_sub down k))
+    ≡ sub_value n i [] (kind_sub down k)
 flow-index n i m at true Word = omega (arith, at)
 flow-index n i m at false Word = refl
 flow-index n i m at true Bit = refl
 flow-index n i m at false Bit = refl
 
 flow-row : (n i m : ℕ) → i + m + 1 ≡ n → (down : Bool) (o : Option Slot)
-    → spot_at n 0 0 (regs_at i m) (flow_place (place_of down o)) ≡ spot_at n i 0 [] (place_of down o)
+    → spot_at n 0 (regs_at i m) (flow_place (place_of down o)) ≡ spot_at n i [] (place_of down o)
 flow-row n i m at down None = refl
 flow-row n i m at down (Some x) = ap (spot_in n x.space x.which) (flow-index n i m at down x.kind)
 
@@ -265,15 +261,15 @@ module _ {slots : Slots} {fb fw : ℕ} {b : Block} {body : Body} (g : Given slot
     abbrev p : ℕ
     p = position b.down n i
 
-    flow-spot : (x : List ℕ) → spot_at n 0 0 (regs_at i m) (flow_at x) ≡ named_row n slots p x
+    flow-spot : (x : List ℕ) → spot_at n 0 (regs_at i m) (flow_at x) ≡ named_row n slots p x
     flow-spot x = flow-row n i m at b.down (slots x) ∙ place-row n i b.down (slots x)
 
     cell-spot : (x : List ℕ) → IsNamed b x
-        → spot_at n 0 0 (regs_at i m) (cell_at x) ≡ stand in_cells slots n p x
+        → spot_at n 0 (regs_at i m) (cell_at x) ≡ stand in_cells slots n p x
     cell-spot x e = elim (cases_cell x e) [
-      | inl f ↦ ap (spot_at n 0 0 (regs_at i m)) f.1
+      | inl f ↦ ap (spot_at n 0 (regs_at i m)) f.1
           ∙ sym (ap (λ c. cond c (cell_spot w) (named_row n slots p x)) f.0)
-      | inr f ↦ ap (spot_at n 0 0 (regs_at i m)) f.1 ∙ flow-spot x
+      | inr f ↦ ap (spot_at n 0 (regs_at i m)) f.1 ∙ flow-spot x
           ∙ sym (ap (λ c. cond c (cell_spot w) (named_row n slots p x)) f.0)
     ]
 
@@ -399,7 +395,7 @@ module _ {slots : Slots} {fb fw : ℕ} {b : Block} {body : Body} (g : Given slot
     each-small =
         let ends = held.holds.last in
         let full = held.holds.full in
-        body-small each-does sub-cell sub-cell g (uses-few b.down) each-well (record {
+        body-small each-does sub-cell sub-cell g each-well (record {
           first = rows-first each.writes (omega (arith, ends));
           written = held.holds.long;
           read = λ k l e. omega (arith, l, full);
@@ -409,7 +405,7 @@ module _ {slots : Slots} {fb fw : ℕ} {b : Block} {body : Body} (g : Given slot
     last-small =
         let full = held.holds.full in
         let long = is.as_many ∙ sym (writes-long last-does) in
-        body-small last-does sub-cell sub-flow g (uses-few b.down) last-well (record {
+        body-small last-does sub-cell sub-flow g last-well (record {
           first = rows-first last.writes (omega (arith, last-count));
           written = long;
           read = λ k l e. omega (arith, l, full);
@@ -417,11 +413,11 @@ module _ {slots : Slots} {fb fw : ℕ} {b : Block} {body : Body} (g : Given slot
         let c = count-flow body.writes in omega (arith, n, c))) most
 
     start-small : IsSmall start
-    start-small = lone-small h.start (cell_place w) cmds.start refl
+    start-small = lone-small h.start (cell_place w) cmds.start
         (commands start 1 held.start (let p = start-plain h cmds in omega (arith, p)))
 
     start-turn : (n : ℕ) (regs : List ℕ)
-        → IsRound (may_have n) n (record { part = start; i = 0; o = 0; regs = regs })
+        → IsRound (may_have n) n (record { part = start; i = 0; regs = regs })
     start-turn n regs = lone-turn h.start (cell_place w) cmds.start (may_have n) n regs
         (λ row. absurd (cc)) tt
 

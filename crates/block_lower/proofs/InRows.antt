@@ -1,6 +1,6 @@
 -- The loop of a block with its states in rows does the block, within its ceilings.
 use Rattle.std.proofs.Common.{◌≡◌, ℕ, zero, suc, ◌+◌, ◌*◌, ◌<◌, ◌≤◌, Bool, true, false, List, []}
-use Rattle.std.proofs.Common.{◌∷◌, ◌++◌, map, filter, length, Option, Some, None, refl, sym, ap}
+use Rattle.std.proofs.Common.{◌∷◌, ◌++◌, map, length, Option, Some, None, refl, sym, ap}
 use Rattle.std.proofs.Common.{◌∙◌, subst, arith, ◌⊎◌, inl, inr}
 use Rattle.std.specs.List.{AllByRecursion, list_all}
 use Rattle.std.proofs.lemmas.Bool.{and_from, or_from}
@@ -17,10 +17,10 @@ use Rattle.loop_ir.specs.declared.ir.Place.{Place}
 use Rattle.loop_ir.specs.declared.names.Slot.{Slot}
 use Rattle.loop_ir.specs.Plain.{Block as Body, StepOf, AllParts}
 use Rattle.loop_ir.specs.Plain.StepOf.{Single, Along}
-use Rattle.loop_ir.specs.Loops.{RoundOf, round_at, one_round, rounds, all_rounds, sub_value}
+use Rattle.loop_ir.specs.Loops.{RoundOf, round_at, rounds, all_rounds, sub_value}
 use Rattle.loop_ir.specs.Spots.{Spot, IsOwn, is_state, after_rounds}
 use Rattle.loop_ir.specs.WellFormed.{IsWellFormed, AreWellFormed}
-use Rattle.loop_ir.specs.Costs.{body_cost, turn_cost, single_cost, step_cost, code_cost}
+use Rattle.loop_ir.specs.Costs.{body_cost, turn_cost, step_cost, code_cost}
 use Rattle.loop_ir.specs.Costs.{step_bodies, bodies, rounds_cost}
 use Rattle.loop_ir.specs.Limits.{IsSmall, may_stand, step_stands, IsRound, StepHasValues}
 use Rattle.loop_ir.specs.Limits.{CanCompile}
@@ -42,7 +42,7 @@ use Rattle.block_lower.proofs.Starts.{started, starts-do, state-at, begins, AreS
 use Rattle.block_lower.proofs.Starts.{tail-states}
 use Rattle.block_lower.proofs.Ends.{does-block}
 use Rattle.block_lower.proofs.Carried.{found-most, has-commands, is-found}
-use Rattle.block_lower.proofs.Bodies.{HasSub, uses, others, all-subs, body-small, turn-round}
+use Rattle.block_lower.proofs.Bodies.{HasSub, all-subs, body-small, turn-round}
 use Rattle.block_lower.proofs.Bodies.{turn-well, lone-well, lone-small, lone-turn}
 use Rattle.block_lower.proofs.Constants.{constant-commands}
 
@@ -64,15 +64,11 @@ pub place-sub : (down : Bool) (o : Option Slot)
 place-sub down None = inl refl
 place-sub down (Some x) = kind-of down x.kind
 
-uses-few : (down : Bool) → length (filter (uses (kind_sub down Word)) others) ≤ 3
-uses-few true = omega arith
-uses-few false = omega arith
-
-low-sub : (down : Bool) → sub_value 1 0 0 [] (kind_sub down Word) ≡ 0
+low-sub : (down : Bool) → sub_value 1 0 [] (kind_sub down Word) ≡ 0
 low-sub true = refl
 low-sub false = refl
 
-word-stands : (down : Bool) → may_stand true false (kind_sub down Word) ≡ true
+word-stands : (down : Bool) → may_stand true (kind_sub down Word) ≡ true
 word-stands true = refl
 word-stands false = refl
 
@@ -81,12 +77,9 @@ module _ (v : Bool) (p : Place) (e : p.sub ≡ Zero) where
   lone-stands : step_stands (Single (constant v p)) ≡ true
   lone-stands = rw e refl
 
-  lone-code : single_cost (constant v p) ≡ 3
-  lone-code = rw e refl
-
 rounds-all : (P : RoundOf Body → Type 0) (body : Body) (n count i : ℕ) → i + count ≡ n
-    → ((j : ℕ) → j < n → P (round_at body j 0))
-    → AllByRecursion P (rounds (λ j. one_round body j 0) i count)
+    → ((j : ℕ) → j < n → P (round_at body j))
+    → AllByRecursion P (rounds body i count)
 rounds-all P body n zero i e h = tt
 rounds-all P body n (suc count) i e h = (
   h i (omega (arith, e)),
@@ -147,8 +140,8 @@ module _ {slots : Slots} {fb fw : ℕ} {b : Block} (g : Given slots fb fw b) whe
     body-well = turn-well g (row-turn is 1 0) subs subs (low-sub b.down)
 
     -- there are commands for it
-    pub body-found : AreFor body.reads body.writes body.graph body.outs body.found
-        → HasFound body.reads body.writes body.graph body.outs body.found
+    pub body-found : AreFor body.reads body.writes body.graph body.outs body.graph body.outs
+        body.found → HasFound body.reads body.writes body.graph body.outs body.found
     body-found =
         let i = is.inputs in
         let m = is.as_many in
@@ -178,17 +171,17 @@ module _ {slots : Slots} {fb fw : ℕ} {b : Block} (g : Given slots fb fw b) whe
           record {
             well = (body-well, tt);
             small = (
-              body-small does subs subs g (uses-few b.down) body-well
+              body-small does subs subs g body-well
                   (rows_fit body body-rows written)
                   (has-commands body body-rows is.graph written for) most,
               tt,
             );
             rows = (body-rows, tt);
             stand = and_from (step_stands (Along body)) true
-                (all-subs does subs subs (may_stand true false) refl (word-stands b.down)) refl;
+                (all-subs does subs subs (may_stand true) refl (word-stands b.down)) refl;
             values = (tt, tt);
             rounds = λ n lt. subst (AllByRecursion (IsRound (may_have n) n))
-                (sym (append-nil (rounds (λ j. one_round body j 0) 0 n)))
+                (sym (append-nil (rounds body 0 n)))
                 (rounds-all (IsRound (may_have n) n) body n n 0 (omega arith) (λ j l.
                 turn-round g (row-turn is n j) l));
             size = sum_by-cons step_cost (Along body) [] ∙ omega arith;
@@ -204,7 +197,7 @@ module _ {slots : Slots} {fb fw : ℕ} {b : Block} (g : Given slots fb fw b) whe
           let zero = state-sub s.name e in
           record {
             well = (lone-well s.start p _, k.well);
-            small = (lone-small s.start p _ zero (constant-commands s.start p row), k.small);
+            small = (lone-small s.start p _ (constant-commands s.start p row), k.small);
             rows = (or_from (is_state p.space) false row refl, k.rows);
             stand = and_from (step_stands (start slots b.down s)) _ (lone-stands s.start p zero)
                 k.stand;
@@ -220,7 +213,7 @@ module _ {slots : Slots} {fb fw : ℕ} {b : Block} (g : Given slots fb fw b) whe
               k.rounds n lt,
             );
             size = let m = sum_by-cons step_cost (start slots b.down s) steps in
-                let c = lone-code s.start p zero in let h = k.size in omega (arith, m, c, h);
+                let h = k.size in omega (arith, m, h);
             few = let m = sum_by-cons step_bodies (start slots b.down s) steps in let h = k.few in
                 omega (arith, m, h);
             sums = λ f one n. let h = k.sums f one n in let c = one s.start p in omega (arith, h, c);
@@ -279,7 +272,7 @@ module _ {slots : Slots} {fb fw : ℕ} {b : Block} (g : Given slots fb fw b) whe
             let first = started (in_rows b) slots n b.states bits in
             subst (Stands slots (in_rows b) n old bits n _) (sym (starts-do g n b.states (λ x e. e)
             (Along body ∷ []) bits
-            ∙ ap (λ rs. after_rounds n rs first) (append-nil (rounds (λ j. one_round body j 0) 0 n))))
+            ∙ ap (λ rs. after_rounds n rs first) (append-nil (rounds body 0 n))))
             (row-visits g is all n 0 (omega arith) _ first (begins g n (in_rows b) lt old bits)));
         cheap = λ n lt wide. within-ceiling is n (rounds_cost (all_rounds n steps)) (row-cost n);
       }

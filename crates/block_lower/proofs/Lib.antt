@@ -11,6 +11,7 @@ mod Visits
 mod Starts
 mod Ends
 mod Carried
+mod Fitting
 mod Counting
 mod Bodies
 mod Constants

@@ -50,7 +50,7 @@ row-below n p Bit l = omega arith
 abbrev pub named_row : ℕ → Slots → ℕ → List ℕ → Spot
 named_row n slots p name = slot_spot n (slot_or (slots name)) (row_of p (slot_or (slots name)).kind)
 
-sub-is : (n i : ℕ) (down : Bool) (k : Kind) → sub_value n i 0 [] (kind_sub down k)
+sub-is : (n i : ℕ) (down : Bool) (k : Kind) → sub_value n i [] (kind_sub down k)
     ≡ row_of (position down n i) k
 sub-is n i true Word = refl
 sub-is n i false Word = refl
@@ -58,7 +58,7 @@ sub-is n i true Bit = refl
 sub-is n i false Bit = refl
 
 pub place-row : (n i : ℕ) (down : Bool) (o : Option Slot)
-    → spot_at n i 0 [] (place_of down o) ≡ slot_spot n (slot_or o)
+    → spot_at n i [] (place_of down o) ≡ slot_spot n (slot_or o)
     (row_of (position down n i) (slot_or o).kind)
 place-row n i down None = refl
 place-row n i down (Some x) = ap (λ v. spot_in n x.space x.which v) (sub-is n i down x.kind)

@@ -40,10 +40,10 @@ lone v p cmds = let l : Lit = record { node = 0; inverted = v } in
 
 -- its round
 abbrev pub lone_round : Bool → Place → List BodyCmd → List ℕ → RoundOf Body
-lone_round v p cmds regs = record { part = lone v p cmds; i = 0; o = 0; regs = regs }
+lone_round v p cmds regs = record { part = lone v p cmds; i = 0; regs = regs }
 
 pub lone-does : (n : ℕ) (v : Bool) (p : Place) (cmds : List BodyCmd) (regs : List ℕ) (bits : Spots)
-    → after_round n (lone_round v p cmds regs) bits ≡ set_spot bits (spot_at n 0 0 regs p) v
+    → after_round n (lone_round v p cmds regs) bits ≡ set_spot bits (spot_at n 0 regs p) v
 unfolding values_from
 lone-does n true p cmds regs bits = refl
 lone-does n false p cmds regs bits = refl
@@ -68,7 +68,7 @@ started a slots n (s ∷ ss) bits = started a slots n ss
 module _ {slots : Slots} {fb fw : ℕ} {b : Block} (g : Given slots fb fw b) (n : ℕ) where
   -- a state's row as the loop's program finds it
   pub state-at : (x : List ℕ) → IsState b x
-      → spot_at n 0 0 [] (place_of b.down (slots x)) ≡ stand (in_rows b) slots n 0 x
+      → spot_at n 0 [] (place_of b.down (slots x)) ≡ stand (in_rows b) slots n 0 x
   state-at x e = place-row n 0 b.down (slots x)
       ∙ stand-still g (in_rows b) n (position b.down n 0) 0 x e
 

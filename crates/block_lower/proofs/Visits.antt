@@ -14,7 +14,7 @@ use Rattle.op_text.specs.Rules.{is_among}
 use Rattle.op_text.specs.Scratch.{state_names, word_names}
 use Rattle.loop_ir.specs.declared.ir.Place.{Place}
 use Rattle.loop_ir.specs.Plain.{Block as Body}
-use Rattle.loop_ir.specs.Loops.{RoundOf, round_at, one_round, rounds}
+use Rattle.loop_ir.specs.Loops.{RoundOf, round_at, rounds}
 use Rattle.loop_ir.specs.Spots.{Spot, Spots, is_state, spot_at, nth_place, nth_spot, round_env}
 use Rattle.loop_ir.specs.Spots.{gives, after_round, after_rounds}
 use Rattle.loop_ir.specs.Statements.{Slots, targets_of, written_names}
@@ -91,9 +91,9 @@ pub record IsTurn (slots : Slots) {b : Block} (a z : Away b) (n i : ℕ) (from t
     (r : RoundOf Body) : Type 0 where
   pub does : DoesAt slots b from to r.part
   pub reads : (x : List ℕ) → IsNamed b x
-      → spot_at n r.i r.o r.regs (from x) ≡ stand a slots n (position b.down n i) x
+      → spot_at n r.i r.regs (from x) ≡ stand a slots n (position b.down n i) x
   pub writes : (x : List ℕ) → IsNamed b x
-      → spot_at n r.i r.o r.regs (to x) ≡ stand z slots n (position b.down n i) x
+      → spot_at n r.i r.regs (to x) ≡ stand z slots n (position b.down n i) x
   pub same : (x : List ℕ) → IsNamed b x → z.is x ≡ a.is x → to x ≡ from x
 
 -- the block's body with its states in rows
@@ -102,7 +102,7 @@ row_place slots b x = place_of b.down (slots x)
 
 pub row-turn : {slots : Slots} {b : Block} {body : Body} → IsBlockBody slots b body → (n i : ℕ)
     → IsTurn slots (in_rows b) (in_rows b) n i (row_place slots b) (row_place slots b)
-    (round_at body i 0)
+    (round_at body i)
 row-turn {slots = slots} {b = b} {body = body} is n i = record {
   does = does-at is (row_place slots b) (row_place slots b) body.reads body.writes body.found
       is.reads is.writes;
@@ -156,17 +156,17 @@ module _ {slots : Slots} {fb fw : ℕ} {b : Block} (g : Given slots fb fw b) {a 
   below = position-below b.down n i lt
 
   pub write-row : (j : ℕ) → j < length b.assigns
-      → nth_spot n r.i r.o r.regs r.part.writes j ≡ stand z slots n p (target b j)
-  write-row j l = ap (spot_at n r.i r.o r.regs) (write-place t.does j l)
+      → nth_spot n r.i r.regs r.part.writes j ≡ stand z slots n p (target b j)
+  write-row j l = ap (spot_at n r.i r.regs) (write-place t.does j l)
       ∙ t.writes (target b j) (target-named b j l)
 
   pub read-row : (k : ℕ) → k < length (block_inputs b)
-      → nth_spot n r.i r.o r.regs r.part.reads k ≡ stand a slots n p (input b k)
-  read-row k l = ap (spot_at n r.i r.o r.regs) (read-place t.does k l)
+      → nth_spot n r.i r.regs r.part.reads k ≡ stand a slots n p (input b k)
+  read-row k l = ap (spot_at n r.i r.regs) (read-place t.does k l)
       ∙ t.reads (input b k) (input-at b k l)
 
   pub writes-once : (j k : ℕ) → j < length b.assigns → k < length b.assigns
-      → nth_spot n r.i r.o r.regs r.part.writes j ≡ nth_spot n r.i r.o r.regs r.part.writes k → j ≡ k
+      → nth_spot n r.i r.regs r.part.writes j ≡ nth_spot n r.i r.regs r.part.writes k → j ≡ k
   writes-once j k lj lk e = once-distinct (targets_of b.assigns) g.meets.targets_differ j k
       (omega (arith, targets-long b)) (omega (arith, targets-long b))
       (stand-once g z z n p (target b j) (target b k) below (target-named b j lj)
@@ -175,11 +175,11 @@ module _ {slots : Slots} {fb fw : ℕ} {b : Block} (g : Given slots fb fw b) {a 
   -- what is written
   round-at : (bits : Spots) (j : ℕ) → j < length b.assigns
       → after_round n r bits (stand z slots n p (target b j))
-      ≡ gives r.part (λ k. bits (nth_spot n r.i r.o r.regs r.part.reads k)) j
+      ≡ gives r.part (λ k. bits (nth_spot n r.i r.regs r.part.reads k)) j
   round-at bits j l =
       let m = t.does.like.as_many in
       ap (after_round n r bits) (sym (write-row j l))
-      ∙ write_at n r.i r.o r.regs (round_env n r bits) r.part.writes r.part.outs bits
+      ∙ write_at n r.i r.regs (round_env n r bits) r.part.writes r.part.outs bits
       (omega (arith, writes-long t.does, m)) (λ x y lx ly e.
       writes-once x y (omega (arith, m)) (omega (arith, m)) e) j (omega (arith, m))
 
@@ -189,7 +189,7 @@ module _ {slots : Slots} {fb fw : ℕ} {b : Block} (g : Given slots fb fw b) {a 
       → after_round n r bits q ≡ bits q
   round-other bits q out =
       let m = t.does.like.as_many in
-      write_other n r.i r.o r.regs (round_env n r bits) r.part.writes r.part.outs bits q (λ j l e.
+      write_other n r.i r.regs (round_env n r bits) r.part.writes r.part.outs bits q (λ j l e.
       let k : j < length b.assigns = omega (arith, m) in out j k (e ∙ write-row j k))
 
   -- a name that is read as it stands has no row that is set
@@ -247,7 +247,7 @@ module _ {slots : Slots} {fb fw : ℕ} {b : Block} (g : Given slots fb fw b) {a 
       v = term_bit (with_lets env b.lets) (equation_at none j b.assigns).value;
       name = assigned-at (with_lets env b.lets) p held b.assigns none j g.meets.targets_differ l;
       there = round-at bits j l
-          ∙ t.does.like.values env (λ k. bits (nth_spot n r.i r.o r.regs r.part.reads k))
+          ∙ t.does.like.values env (λ k. bits (nth_spot n r.i r.regs r.part.reads k))
           (λ k lk. ap bits (read-row k lk)
           ∙ reads-held (input b k) (among-at (block_inputs b) k lk)) j
           (equation_at none j b.assigns) (equation-got none b.assigns j l);
@@ -321,11 +321,11 @@ pub row-visits : {slots : Slots} {fb fw : ℕ} {b : Block} {body : Body} {n : �
     → (held : List ℕ → NameValue) (bits : Spots) → Stands slots (in_rows b) n old before i held bits
     → Stands slots (in_rows b) n old before n
     (fold (visited b) held (positions_from b.down n i count))
-    (after_rounds n (rounds (λ j. one_round body j 0) i count) bits)
+    (after_rounds n (rounds body i count) bits)
 row-visits {slots = slots} {b = b} {n = n} {old = old} {before = before} g is all zero i e held bits
     st = let h : i ≡ n = omega (arith, e) in
     subst (λ j. Stands slots (in_rows b) n old before j held bits) h st
 row-visits {b = b} {body = body} {n = n} g is all (suc count) i e held bits st =
     row-visits g is all count (i + 1) (omega (arith, e)) (visited b held (position b.down n i))
-    (after_round n (round_at body i 0) bits)
+    (after_round n (round_at body i) bits)
     (one-visit g (row-turn is n i) (omega (arith, e)) all st)

@@ -53,10 +53,20 @@ pub record IsUnfit (reads writes : List Place) (g : Graph) (outs : List Lit) : T
   pub are : AreRows reads writes g.inputs outs (length outs) rows
   pub unfit : FitBody g rows → ⊥
 
--- the commands were found for the graph's body, or there are none since no body is made of it
-abbrev pub AreFor : List Place → List Place → Graph → List Lit → List BodyCmd → Type 0
-AreFor reads writes g outs cmds = HasFound reads writes g outs cmds
-    ⊎ ((cmds ≡ []) × IsUnfit reads writes g outs)
+-- no body is made of the graph: it stands as it is, and has no commands
+pub record IsLeft (reads writes : List Place) (g : Graph) (outs : List Lit) (h : Graph)
+    (made : List Lit) (cmds : List BodyCmd) : Type 0 where
+  pub unfit : IsUnfit reads writes g outs
+  pub same : h ≡ g
+  pub same_outs : made ≡ outs
+  pub none : cmds ≡ []
+
+-- the commands were found for the body of the second graph, which stands for the first; or no body
+-- is made of the first
+abbrev pub AreFor : List Place → List Place → Graph → List Lit → Graph → List Lit → List BodyCmd
+    → Type 0
+AreFor reads writes g outs h made cmds = HasFound reads writes h made cmds
+    ⊎ IsLeft reads writes g outs h made cmds
 
 -- so many commands are no more than those of the graph's plain body at these places, and than each
 -- known sequence that may stand for it. The rows are those of its outputs: there are no others
@@ -77,7 +87,8 @@ pub record IsFewest (count : ℕ) (first : Choice) (others : List Choice) : Type
   pub first_too : count ≤ length first.found.items
   pub others_too : AreNoFewer count others
 
--- the choice's graph may stand for the graph, and its commands were found for its body
+-- the choice's graph may stand for the graph, and its commands were found for its body: they are no
+-- more than its plain body takes, and each known sequence that may stand for it
 pub record IsRightChoice (reads writes : List Place) (g : Graph) (outs : List Lit) (c : Choice)
     : Type 0 where
   pub stands : MayStand g outs c.graph.mig c.graph.outs.items
@@ -89,19 +100,10 @@ pub record IsCounted (reads writes : List Place) (g : Graph) (outs : List Lit) (
   pub right : IsRightChoice reads writes g outs c
   pub offered : IsOffered s c.graph.mig c.graph.outs.items
 
--- the sketch offers a graph that may stand for the graph, but no body is made of that
-pub record IsUnfitOffer (reads writes : List Place) (g : Graph) (outs : List Lit) (s : Sketch)
-    : Type 0 where
-  pub graph : Graph
-  pub made : List Lit
-  pub offered : IsOffered s graph made
-  pub stands : MayStand g outs graph made
-  pub unfit : IsUnfit reads writes graph made
-
--- the sketch is not right for the graph, or is reduced to a larger one, or no body is made of it
+-- the sketch is not right for the graph, or has more nodes, or no body is made of the graph itself
 abbrev pub IsDropped : List Place → List Place → Graph → List Lit → Sketch → Type 0
 IsDropped reads writes g outs s =
-    IsRight g outs s → IsLarger g s ⊎ IsUnfitOffer reads writes g outs s
+    IsRight g outs s → IsLarger g s ⊎ IsUnfit reads writes g outs
 
 -- of each sketch in order the choice of its graph, or none where it is dropped
 abbrev pub AreCounted : List Place → List Place → Graph → List Lit → List Sketch → List Choice

@@ -92,7 +92,8 @@ pub fn block_body(
         → IsBlockBody (slots_of names.now) (block_from down states lets.now assigns.now)
         (block_of r.body)) }
     ensures found { IfOk result (λ r. AreFor r.body.reads.items r.body.writes.items
-        r.body.graph.mig r.body.graph.outs.items r.body.found.items) }
+        r.body.graph.mig r.body.graph.outs.items r.body.graph.mig r.body.graph.outs.items
+        r.body.found.items) }
 {
     let inputs = inputs_of(lets, assigns, alloc)?;
     let gates = build(lets, assigns, &inputs.numbers, alloc)?;

@@ -207,7 +207,7 @@ fn least_of(
 
 /// The reduced graph or one of the others in its place, with the commands that were found for it.
 ///
-/// There are none where no body is made of the reduced graph.
+/// Where no body is made of the reduced graph, it stands as it is and has none.
 fn chosen(
     graph: MigOuts,
     others: Vec<Choice>,
@@ -221,8 +221,8 @@ fn chosen(
         graph.outs.items) others.items }
     ensures stands { IfOk result (λ r. MayStand graph.mig graph.outs.items r.graph.mig
         r.graph.outs.items) }
-    ensures found { IfOk result (λ r. AreFor reads.now writes.now r.graph.mig r.graph.outs.items
-        r.found.items) }
+    ensures found { IfOk result (λ r. AreFor reads.now writes.now graph.mig graph.outs.items
+        r.graph.mig r.graph.outs.items r.found.items) }
     ensures own { IfOk result (λ r. IsNoDearer reads.now writes.now graph.mig graph.outs.items
         (length r.found.items)) }
     ensures others { IfOk result (λ r. AreNoFewer (length r.found.items) others.items) }
@@ -259,8 +259,8 @@ pub(crate) fn least_graph(
     requires reduced { IsReduced graph.mig graph.outs.items }
     ensures stands { IfOk result (λ r. MayStand graph.mig graph.outs.items r.choice.graph.mig
         r.choice.graph.outs.items) }
-    ensures found { IfOk result (λ r. AreFor reads.now writes.now r.choice.graph.mig
-        r.choice.graph.outs.items r.choice.found.items) }
+    ensures found { IfOk result (λ r. AreFor reads.now writes.now graph.mig graph.outs.items
+        r.choice.graph.mig r.choice.graph.outs.items r.choice.found.items) }
     ensures own { IfOk result (λ r. IsNoDearer reads.now writes.now graph.mig graph.outs.items
         (length r.choice.found.items)) }
 {

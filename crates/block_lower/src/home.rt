@@ -37,15 +37,7 @@ fn flow_place(place: Place) -> Place
     let sub = match place.sub {
         Sub::Inner => Sub::Register(0),
         Sub::InnerDown => Sub::Register(1),
-        Sub::Zero
-        | Sub::Top
-        | Sub::Outer
-        | Sub::OuterDown
-        | Sub::Sum
-        | Sub::DownSum
-        | Sub::DownPlusN
-        | Sub::NPlusInner
-        | Sub::Register(_) => place.sub,
+        Sub::Zero | Sub::Register(_) => place.sub,
     };
     Place {
         space: place.space,

@@ -8,17 +8,15 @@ use Rattle.std.proofs.lemmas.Bool.{and_from, lt-ltb}
 use Rattle.std.proofs.lemmas.List.Folds.{list_any-append, list_all-append}
 use Rattle.std.proofs.lemmas.Map.Views.{any-filter_same}
 use Rattle.loop_ir.specs.declared.ir.Sub.{Sub}
-use Rattle.loop_ir.specs.declared.ir.Sub.TheVariants.{Zero, Top, Inner as At_inner, InnerDown}
-use Rattle.loop_ir.specs.declared.ir.Sub.TheVariants.{Outer, OuterDown, Sum, DownSum, DownPlusN}
-use Rattle.loop_ir.specs.declared.ir.Sub.TheVariants.{NPlusInner, Register}
+use Rattle.loop_ir.specs.declared.ir.Sub.TheVariants.{Zero, Inner, InnerDown, Register}
 use Rattle.loop_ir.specs.declared.ir.Place.{Place}
 use Rattle.loop_ir.specs.Plain.{Block}
 use Rattle.loop_ir.specs.Spots.{nth_place, is_state, Spot, IsOwn}
-use Rattle.loop_ir.specs.Costs.{same_sub, sub_code, is_used, is_fixed, used_subs, plain_cost}
+use Rattle.loop_ir.specs.Costs.{same_sub, sub_code, plain_cost}
 use Rattle.loop_ir.specs.Limits.{may_stand, all_stand, HasCommands, IsSmall, IsHad, HasValues}
 use Rattle.loop_ir.specs.Limits.{is_in_register, stays_in_registers}
 use Rattle.loop_laws.proofs.Same.{sub_true}
-use Rattle.loop_front.specs.Front.{in_register, placed, in_registers}
+use Rattle.loop_front.specs.Front.{is_used, used_subs, in_register, placed, in_registers}
 use Rattle.std.proofs.lemmas.List.{length-map}
 use Rattle.mig_graph.specs.declared.Lit.{Lit}
 use Rattle.row_alloc.specs.declared.body.OutRow.{OutRow}
@@ -45,50 +43,27 @@ filter_all P t (x ∷ xs) h = by (t x) refl (filter_all P t xs h.1)
 
 -- the subscript is neither 0 nor a register
 abbrev pub IsIndex : Sub → Type 0
-IsIndex s = (0 < sub_code s) × (sub_code s < 10)
-
-pub not_zero : (t : Sub) → IsIndex t → same_sub Zero t ≡ false
-not_zero t i = ne_eqb 0 (sub_code t) (λ f. let lt = i.0 in omega (arith, lt, f))
-
-pub not_register : (r : ℕ) (t : Sub) → IsIndex t → same_sub (Register r) t ≡ false
-not_register r t i = ne_eqb (10 + r) (sub_code t) (λ f. let lt = i.1 in omega (arith, lt, f))
+IsIndex Zero = ⊥
+IsIndex Inner = Unit {0}
+IsIndex InnerDown = Unit {0}
+IsIndex (Register r) = ⊥
 
 abbrev indices : List Sub
-indices = Top ∷ At_inner ∷ InnerDown ∷ Outer ∷ OuterDown ∷ Sum ∷ DownSum ∷ DownPlusN ∷ NPlusInner
-    ∷ []
+indices = Inner ∷ InnerDown ∷ []
 
--- what holds of each subscript that the body uses
-pub all_used : (P : Sub → Type 0) (b : Block) → ((s : Sub) → IsIndex s → is_used b s ≡ true → P s)
-    → AllByRecursion P (used_subs b)
-all_used P b h = filter_all P (is_used b) indices (each indices refl)
-  where
-    each : (xs : List Sub) → list_all (λ s. nat_lt 0 (sub_code s) && nat_lt (sub_code s) 10) xs ≡ true
-        → AllByRecursion (λ s. is_used b s ≡ true → P s) xs
-    each [] e = tt
-    each (x ∷ xs) e =
-        let a = and_parts (nat_lt 0 (sub_code x) && nat_lt (sub_code x) 10) _ e in
-        let c = and_parts (nat_lt 0 (sub_code x)) _ a.0 in
-        (h x (ltb-true 0 (sub_code x) c.0, ltb-true (sub_code x) 10 c.1), each xs a.1)
+-- each subscript that a body uses goes by the index
+pub all_used : (b : Block) → AllByRecursion IsIndex (used_subs b)
+all_used b = filter_all IsIndex (is_used b) indices ((λ e. tt), ((λ e. tt), tt))
 
--- a body without them uses none
-pub no_subs : (b : Block) → ((s : Sub) → IsIndex s → is_used b s ≡ false) → used_subs b ≡ []
-no_subs b h = none (used_subs b)
-    (all_used (λ s. ⊥) b (λ s i u. let e : true ≡ false = sym u ∙ h s i in absurd (cc)))
+pub used_few : (b : Block) → length (used_subs b) ≤ 2
+used_few b = by (is_used b Inner) (is_used b InnerDown)
   where
-    none : (xs : List Sub) → AllByRecursion (λ s. ⊥) xs → xs ≡ []
-    none [] a = refl
-    none (x ∷ xs) a = absurd a.0
-
--- a body all of whose places are at 0
-pub fixed_none : (b : Block) → is_fixed b ≡ true → used_subs b ≡ []
-fixed_none b h = no_subs b (none (b.reads ++ b.writes) h)
-  where
-    none : (ps : List Place) → list_all (λ p. same_sub p.sub Zero) ps ≡ true → (t : Sub) → IsIndex t
-        → list_any (λ p. same_sub p.sub t) ps ≡ false
-    none [] h t i = refl
-    none (p ∷ ps) h t i = or_from (same_sub p.sub t) _
-        (ap (λ s. same_sub s t) (sub_true p.sub Zero (grind arith)) ∙ not_zero t i)
-        (none ps (grind arith) t i)
+    by : (c d : Bool) → length (cond c (Inner ∷ cond d (InnerDown ∷ []) [])
+        (cond d (InnerDown ∷ []) [])) ≤ 2
+    by true true = omega arith
+    by true false = omega arith
+    by false true = omega arith
+    by false false = omega arith
 
 -- the subscript is 0 or one of these
 abbrev pub IsKnown : List Sub → Sub → Type 0
@@ -103,47 +78,42 @@ nth_known ss [] h k = λ e. refl
 nth_known ss (p ∷ ps) h zero = h.0
 nth_known ss (p ∷ ps) h (suc k) = nth_known ss ps h.1 k
 
--- where a body stands in an inner loop or not, and in an outer one or not
-module _ (inner outer : Bool) where
-  any_stand : (ps : List Place) (s : Sub) → list_any (λ p. same_sub p.sub s) ps ≡ true
-      → list_all (λ p. may_stand inner outer p.sub) ps ≡ true → may_stand inner outer s ≡ true
-  any_stand [] s u h = cc
-  any_stand (p ∷ ps) s u h =
-      let k = and_parts (may_stand inner outer p.sub)
-      (list_all (λ p. may_stand inner outer p.sub) ps) h in
+module _ (b : Block) (stand : all_stand true b ≡ true) where
+  used_stand : (ps : List Place) (s : Sub) → list_any (λ p. same_sub p.sub s) ps ≡ true
+      → list_all (λ p. may_stand true p.sub) ps ≡ true → may_stand true s ≡ true
+  used_stand [] s u h = cc
+  used_stand (p ∷ ps) s u h =
+      let k = and_parts (may_stand true p.sub) (list_all (λ p. may_stand true p.sub) ps) h in
       elim (cases_Bool (same_sub p.sub s)) [
-        | inl e ↦ subst (λ t. may_stand inner outer t ≡ true) (sub_true p.sub s e) k.0
-        | inr e ↦ any_stand ps s
+        | inl e ↦ subst (λ t. may_stand true t ≡ true) (sub_true p.sub s e) k.0
+        | inr e ↦ used_stand ps s
             (subst (λ c. (c || list_any (λ p. same_sub p.sub s) ps) ≡ true) e u) k.1
       ]
 
-  module _ (b : Block) (stand : all_stand inner outer b ≡ true) where
-    pub used_stand : (s : Sub) → is_used b s ≡ true → may_stand inner outer s ≡ true
-    used_stand s u = any_stand (b.reads ++ b.writes) s u stand
+  -- a subscript that has no register is 0
+  else_zero : (s : Sub) → is_used b s ≡ true → may_stand true s ≡ true → IsKnown (used_subs b) s
+  else_zero Zero u m e = refl
+  else_zero (Register r) u m e = cc
+  else_zero s u m e =
+      let f = any-filter_same (same_sub s) (is_used b) true
+      (λ t h. subst (λ t. is_used b t ≡ true) (sub_true s t h) u) indices in
+      absurd (cc (e, f))
 
-    -- a subscript that has no register is 0
-    else_zero : (s : Sub) → is_used b s ≡ true → may_stand inner outer s ≡ true
-        → IsKnown (used_subs b) s
-    else_zero Zero u m e = refl
-    else_zero (Register r) u m e = cc
-    else_zero s u m e =
-        let f = any-filter_same (same_sub s) (is_used b) true
-        (λ t h. subst (λ t. is_used b t ≡ true) (sub_true s t h) u) indices in
-        absurd (cc (e, f))
+  each_known : (xs : List Place) → ((t : Place → Bool) → list_any t xs ≡ true
+      → list_any t (b.reads ++ b.writes) ≡ true) → AreKnown (used_subs b) xs
+  each_known [] among = tt
+  each_known (x ∷ xs) among =
+      let u = among (λ p. same_sub p.sub x.sub)
+      (grind (arith, eq-eqb (sub_code x.sub) (sub_code x.sub) refl)) in (
+        else_zero x.sub u (used_stand (b.reads ++ b.writes) x.sub u stand),
+        each_known xs (λ t h. among t (grind (arith, h))),
+      )
 
-    each_known : (xs : List Place) → ((t : Place → Bool) → list_any t xs ≡ true
-        → list_any t (b.reads ++ b.writes) ≡ true) → AreKnown (used_subs b) xs
-    each_known [] among = tt
-    each_known (x ∷ xs) among =
-        let u = among (λ p. same_sub p.sub x.sub)
-        (grind (arith, eq-eqb (sub_code x.sub) (sub_code x.sub) refl)) in
-        (else_zero x.sub u (used_stand x.sub u), each_known xs (λ t h. among t (grind (arith, h))))
+  pub known_reads : AreKnown (used_subs b) b.reads
+  known_reads = each_known b.reads (λ t h. list_any-append t b.reads b.writes ∙ grind (arith, h))
 
-    pub known_reads : AreKnown (used_subs b) b.reads
-    known_reads = each_known b.reads (λ t h. list_any-append t b.reads b.writes ∙ grind (arith, h))
-
-    pub known_writes : AreKnown (used_subs b) b.writes
-    known_writes = each_known b.writes (λ t h. list_any-append t b.reads b.writes ∙ grind (arith, h))
+  pub known_writes : AreKnown (used_subs b) b.writes
+  known_writes = each_known b.writes (λ t h. list_any-append t b.reads b.writes ∙ grind (arith, h))
 
 -- the subscript of a register
 unregister : List Sub → ℕ → Sub → Sub
@@ -153,10 +123,10 @@ unregister (t ∷ ts) r x = cond (same_sub x (Register r)) t (unregister ts (r +
 -- a later one is in another register
 other_register : (ss : List Sub) (r q : ℕ) (s : Sub) → r < q
     → same_sub (in_register ss q s) (Register r) ≡ false
-other_register [] r q s lt = ne_eqb 0 (10 + r) (λ e. omega (arith, e))
+other_register [] r q s lt = ne_eqb 0 (3 + r) (λ e. omega (arith, e))
 other_register (t ∷ ts) r q s lt = elim (same_sub s t)
     as (λ c. same_sub (cond c (Register q) (in_register ts (q + 1) s)) (Register r) ≡ false) [
-      | true ↦ ne_eqb (10 + q) (10 + r) (λ e. omega (arith, e, lt))
+      | true ↦ ne_eqb (3 + q) (3 + r) (λ e. omega (arith, e, lt))
       | false ↦ other_register ts r (q + 1) s (omega (arith, lt))
     ]
 
@@ -169,7 +139,7 @@ back (t ∷ ts) r s h = by (same_sub s t) refl h (back ts (r + 1) s)
         → (IsKnown ts s → unregister ts (r + 1) (in_register ts (r + 1) s) ≡ s)
         → unregister (t ∷ ts) r (cond b (Register r) (in_register ts (r + 1) s)) ≡ s
     by true e h rec = ap (λ c. cond c t (unregister ts (r + 1) (Register r)))
-        (eq-eqb (10 + r) (10 + r) refl) ∙ sym (sub_true s t e)
+        (eq-eqb (3 + r) (3 + r) refl) ∙ sym (sub_true s t e)
     by false e h rec = ap (λ c. cond c t (unregister ts (r + 1) (in_register ts (r + 1) s)))
         (other_register ts r (r + 1) s (omega arith)) ∙ rec h
 
@@ -325,8 +295,8 @@ module _ (f : Sub → Sub) where
         few = let few = c.few in omega (arith, few, cost_other b);
       }
 
-      pub small_other : IsSmall b → length (used_subs (other b)) ≤ 3 → IsSmall (other b)
-      small_other s subs = record {
+      pub small_other : IsSmall b → IsSmall (other b)
+      small_other s = record {
         well = well_other s.well;
         states = states_other s.states;
         commands = commands_other s.well (few_rows b.writes) s.commands;
@@ -334,7 +304,6 @@ module _ (f : Sub → Sub) where
         inputs = s.inputs;
         outputs = s.outputs;
         rows = s.rows;
-        subs = subs;
       }
 
 module _ (b : Block) where
@@ -344,22 +313,11 @@ module _ (b : Block) where
   abbrev at : Place → Place
   at = placed subs
 
-  no_index : (t : Sub) → IsIndex t → (ps : List Place)
-      → list_any (λ p. same_sub p.sub t) (map at ps) ≡ false
-  no_index t i [] = refl
-  no_index t i (p ∷ ps) = or_from (same_sub (in_register subs 3 p.sub) t) _
-      (registered (λ s. same_sub s t ≡ false) subs 3 p.sub (not_zero t i)
-      (λ q lt. not_register q t i)) (no_index t i ps)
-
   -- code can be made of it
   pub small_registers : IsSmall b → AreKnown subs b.reads → AreKnown subs b.writes
       → IsSmall (in_registers b)
-  small_registers s r w =
-      let none : length (used_subs (in_registers b)) ≡ 0 = ap length (no_subs (in_registers b)
-      (λ t i. list_any-append (λ p. same_sub p.sub t) (map at b.reads) (map at b.writes)
-      ∙ or_from _ _ (no_index t i b.reads) (no_index t i b.writes))) in
-      small_other (in_register subs 3) b (λ j k e. two_registers subs 3 _ _ (nth_known subs b.reads r j)
-      (nth_known subs b.writes w k) e) s (omega (arith, none))
+  small_registers s r w = small_other (in_register subs 3) b (λ j k e.
+      two_registers subs 3 _ _ (nth_known subs b.reads r j) (nth_known subs b.writes w k) e) s
 
   -- its values are as before
   pub values_registers : (may_have : ℕ → Spot → Type 0) → HasValues may_have b
@@ -377,8 +335,8 @@ module _ (b : Block) where
       }
 
   -- and its places stand in registers below 7
-  pub stays_registers : IsSmall b → stays_in_registers (λ r. true) (in_registers b) ≡ true
-  stays_registers s =
+  pub stays_registers : stays_in_registers (λ r. true) (in_registers b) ≡ true
+  stays_registers =
       list_all-append (λ p. is_in_register (λ r. true) p.sub) (map at b.reads) (map at b.writes)
       ∙ and_from _ _ (stay b.reads) (stay b.writes)
     where
@@ -387,4 +345,4 @@ module _ (b : Block) where
       stay (p ∷ ps) = and_from (is_in_register (λ r. true) (in_register subs 3 p.sub)) _
           (registered (λ s. is_in_register (λ r. true) s ≡ true) subs 3 p.sub refl
           (λ q lt. and_from (nat_lt q 7) true
-          (lt-ltb q 7 (let few = s.subs in omega (arith, lt, few))) refl)) (stay ps)
+          (lt-ltb q 7 (omega (arith, lt, used_few b))) refl)) (stay ps)

@@ -1,18 +1,14 @@
--- What the code of a flow builds: places one after another, and from its end moves, parts of a nest
--- and steps.
+-- What the code of a flow builds: places one after another, and from its end moves and steps.
 use Rattle.std.proofs.Common.{◌≡◌, ℕ, ◌+◌, ◌-◌, ◌<◌, List, [], ◌∷◌, ◌++◌, length, get_or, take}
 use Rattle.std.proofs.Common.{drop, map, refl, sym, ap, ◌∙◌, arith, zero, suc, ◌≤◌, set}
 use Rattle.std.proofs.Math.Seq.{take-length}
 use Rattle.loop_ir.specs.declared.ir.Move.{Move}
 use Rattle.loop_ir.specs.declared.ir.Sub.{Sub}
-use Rattle.loop_ir.specs.declared.ir.Inner.{Inner}
 use Rattle.loop_ir.specs.declared.ir.Step.{Step}
-use Rattle.loop_ir.specs.Plain.{Block, inner_of, step_of, block_of}
+use Rattle.loop_ir.specs.Plain.{Block, step_of}
 use Rattle.loop_ir.specs.Flows.{FlowOf}
-use Rattle.loop_front.specs.Front.{put_all, each_sub, once_flow, each_flow, inner_flow, step_flow}
-use Rattle.loop_front.specs.Front.{steps_flow}
+use Rattle.loop_front.specs.Front.{put_all, each_sub, step_flow, steps_flow}
 use Rattle.loop_ir.specs.Flows.FlowOf.{Put}
-use Rattle.loop_ir.specs.declared.ir.Inner.TheVariants as code
 
 pub put_both : {A : Type 0} (xs ys : List Move) (k : FlowOf A)
     → put_all (xs ++ ys) k ≡ put_all xs (put_all ys k)
@@ -32,18 +28,6 @@ pub first_is : {A : Type 0} (xs : List A) (d : A) → 0 < length xs
 first_is [] d l = absurd (omega arith)
 first_is (x ∷ xs) d l = let e : length (x ∷ xs) - 1 ≡ length xs = omega arith in
     rw (e, take-length xs) refl
-
-inner_last : (xs : List Inner) (x : Inner) (k : FlowOf Block)
-    → inner_flow (map inner_of (xs ++ x ∷ [])) k
-    ≡ inner_flow (map inner_of xs) (inner_flow (inner_of x ∷ []) k)
-inner_last [] x k = refl
-inner_last (code.Once b ∷ xs) x k = ap (once_flow (block_of b)) (inner_last xs x k)
-inner_last (code.Each count b ∷ xs) x k = ap (each_flow count (block_of b)) (inner_last xs x k)
-
-pub inner_popped : (all xs : List Inner) (x : Inner) (k : FlowOf Block) → all ≡ xs ++ x ∷ []
-    → inner_flow (map inner_of all) k
-    ≡ inner_flow (map inner_of xs) (inner_flow (inner_of x ∷ []) k)
-inner_popped all xs x k e = ap (λ ys. inner_flow (map inner_of ys) k) e ∙ inner_last xs x k
 
 steps_last : (xs : List Step) (x : Step) (k : FlowOf Block)
     → steps_flow (map step_of (xs ++ x ∷ [])) k

@@ -67,7 +67,7 @@ IsCleared t xs g h = (length h ≡ 8) × ((q : ℕ) → slice_index g q ≡ 0 �
 
 module _ (t : ℕ → Bool) (n : ℕ) where
   value_like : (z g : List ℕ) → Alike t z g → (s : Sub) → is_in_register t s ≡ true
-      → sub_value n 0 0 g s ≡ sub_value n 0 0 z s
+      → sub_value n 0 g s ≡ sub_value n 0 z s
   value_like z g a Zero h = refl
   value_like z g a (Register r) h = a.same r (grind (arith, h)) (grind (arith, h))
   value_like z g a s h = cc

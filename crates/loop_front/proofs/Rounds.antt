@@ -5,30 +5,26 @@ use Rattle.std.proofs.Common.{ap, ◌∙◌, subst, arith, ◌+◌, ◌-◌, ◌
 use Rattle.std.specs.Prelude.{slice_index, nat_le}
 use Rattle.std.specs.List.{AllByRecursion, list_all, range_with_len}
 use Rattle.loop_ir.specs.declared.ir.Place.{Place}
-use Rattle.loop_ir.specs.Plain.{Block, InnerOf, StepOf}
+use Rattle.loop_ir.specs.Plain.{Block, StepOf}
 use Rattle.loop_ir.specs.Flows.{FlowOf, EventOf, run}
 use Rattle.loop_ir.specs.Flows.EventOf.{Done, Moved, Counted}
 use Rattle.loop_ir.specs.FlowTests.{is_safe, is_event_safe, widths}
 use Rattle.loop_ir.specs.Limits.{IsRound}
-use Rattle.loop_ir.specs.Loops.{RoundOf, rounds_in, one_round, rounds, positions, inner_rounds}
-use Rattle.loop_ir.specs.Loops.{all_rounds, flow_rounds}
+use Rattle.loop_ir.specs.Loops.{RoundOf, rounds_in, rounds, all_rounds, flow_rounds}
 use Rattle.loop_ir.specs.Spots.{Spot, IsOwn, is_state, nth_place, nth_spot}
 use Rattle.loop_ir.specs.Chains.{states_in, is_alive, finds, left_by, chained, loop_finds}
-use Rattle.loop_ir.specs.Chains.{inner_left, inner_finds, steps_find, flow_finds}
+use Rattle.loop_ir.specs.Chains.{steps_find, flow_finds}
 use Rattle.loop_laws.proofs.FlowLogic.{wp, after, AllFine, sound}
 use Rattle.loop_front.specs.Like.{IsSameRow, AreSameRows, IsLike, AreLike}
 use Rattle.std.proofs.lemmas.Bool.{and_parts}
 use Rattle.std.proofs.lemmas.List.FromFn.{get_or-range_with_len, length-range_with_len}
 use Rattle.std.proofs.lemmas.List.Sums.{AllPass-from_list_all}
 use Rattle.bit_rows.specs.declared.TheConstants.{WIDTH_MAX}
-use Rattle.loop_ir.specs.declared.ir.Count.{Count}
-use Rattle.loop_ir.specs.declared.ir.Count.TheVariants.{All, Rest}
-use Rattle.loop_ir.specs.Plain.InnerOf.{Alone, Across}
-use Rattle.loop_ir.specs.Plain.StepOf.{Single, Along, Nest, Flowed}
+use Rattle.loop_ir.specs.Plain.StepOf.{Single, Along, Flowed}
 
 -- what a body does with these registers
 abbrev pub round_in : Block → List ℕ → RoundOf Block
-round_in b g = record { part = b; i = 0; o = 0; regs = g }
+round_in b g = record { part = b; i = 0; regs = g }
 
 -- the second round does what the first does, and places that were equal are
 pub record IsCopy (n : ℕ) (r s : RoundOf Block) : Type 0 where
@@ -61,7 +57,7 @@ module _ (n : ℕ) (r s : RoundOf Block) where
   }
 
   spot : (ps qs : List Place) → AreSame ps qs → (k : ℕ)
-      → nth_spot n s.i s.o s.regs qs k ≡ nth_spot n r.i r.o r.regs ps k
+      → nth_spot n s.i s.regs qs k ≡ nth_spot n r.i r.regs ps k
   spot ps qs t k = let e = t.row k in cc
 
   still_round : (may_have : Spot → Type 0) → IsRound may_have n r → IsCopy n r s
@@ -207,67 +203,24 @@ both_chained [] ys alive h k = any_chained ys alive k
 both_chained (r ∷ rs) ys alive h k = grind (arith, both_chained rs ys (left_by r.part))
 
 -- at least one round of a body, and what comes after them
-across : (rest : List (RoundOf Block)) (b : Block) (o i count : ℕ) (alive : List ℕ) → 0 < count
+along : (rest : List (RoundOf Block)) (b : Block) (i count : ℕ) (alive : List ℕ) → 0 < count
     → loop_finds alive b ≡ true → chained (left_by b) rest ≡ true
-    → chained alive (rounds (λ i. one_round b i o) i count ++ rest) ≡ true
-across rest b o i zero alive some h k = absurd (omega arith)
-across rest b o i (suc zero) alive some h k = grind arith
-across rest b o i (suc (suc m)) alive some h k =
-    let more = across rest b o (i + 1) (suc m) (left_by b) (omega arith) (grind arith) k in
+    → chained alive (rounds b i count ++ rest) ≡ true
+along rest b i zero alive some h k = absurd (omega arith)
+along rest b i (suc zero) alive some h k = grind arith
+along rest b i (suc (suc m)) alive some h k =
+    let more = along rest b (i + 1) (suc m) (left_by b) (omega arith) (grind arith) k in
     grind arith
 
 module _ (n : ℕ) where
-  at_least_one : (o : ℕ) (count : Count) → o < n → 0 < positions n o count
-  at_least_one o All l = omega arith
-  at_least_one o Rest l = omega arith
-
-  inners : (rest : List (RoundOf Block)) (o : ℕ) (ps : List (InnerOf Block)) (alive : List ℕ)
-      → o < n → inner_finds alive ps ≡ true → chained (inner_left alive ps) rest ≡ true
-      → chained alive (inner_rounds n o ps ++ rest) ≡ true
-  inners rest o [] alive l h k = k
-  inners rest o (Alone b ∷ ps) alive l h k = grind (arith, inners rest o ps (left_by b) l)
-  inners rest o (Across c b ∷ ps) alive l h k =
-      let rs = rounds (λ i. one_round b i o) 0 (positions n o c) in
-      subst (λ l. chained alive l ≡ true) (sym (append_assoc rs (inner_rounds n o ps) rest))
-      (across (inner_rounds n o ps ++ rest) b o 0 (positions n o c) alive (at_least_one o c l)
-      (grind arith) (inners rest o ps (left_by b) l (grind arith) k))
-
-  -- a nest leaves always the same, or nothing new
-  left_again : (ps : List (InnerOf Block)) (alive : List ℕ)
-      → inner_left (inner_left alive ps) ps ≡ inner_left alive ps
-  left_again [] alive = refl
-  left_again (Alone b ∷ ps) alive = refl
-  left_again (Across c b ∷ ps) alive = refl
-
-  -- the turns of a nest, the first of which finds what is there
-  nested : (rest : List (RoundOf Block)) (ps : List (InnerOf Block)) (count o : ℕ) (alive : List ℕ)
-      → 0 < count → o + count ≤ n → inner_finds alive ps ≡ true
-      → inner_finds (inner_left alive ps) ps ≡ true → chained (inner_left alive ps) rest ≡ true
-      → chained alive (rounds (λ o. inner_rounds n o ps) o count ++ rest) ≡ true
-  nested rest ps zero o alive some le h again k = absurd (omega arith)
-  nested rest ps (suc zero) o alive some le h again k =
-      rw (append_assoc (inner_rounds n o ps) [] rest) (inners rest o ps alive (omega arith) h k)
-  nested rest ps (suc (suc m)) o alive some le h again k =
-      let more = rounds (λ o. inner_rounds n o ps) (o + 1) (suc m) in
-      let e = sym (left_again ps alive) in
-      subst (λ l. chained alive l ≡ true) (sym (append_assoc (inner_rounds n o ps) more rest))
-      (inners (more ++ rest) o ps alive (omega arith) h (nested rest ps (suc m) (o + 1)
-      (inner_left alive ps) (omega arith) (omega arith) again
-      (subst (λ l. inner_finds l ps ≡ true) e again) (subst (λ l. chained l rest ≡ true) e k)))
-
   pub steps_chained : (ss : List (StepOf Block)) (alive : List ℕ) → 0 < n → n ≤ WIDTH_MAX
       → steps_find alive ss ≡ true → chained alive (all_rounds n ss) ≡ true
   steps_chained [] alive some small h = refl
   steps_chained (Single b ∷ ss) alive some small h =
       grind (arith, steps_chained ss (left_by b) some small)
   steps_chained (Along b ∷ ss) alive some small h =
-      across (all_rounds n ss) b 0 0 n alive some (grind arith)
+      along (all_rounds n ss) b 0 n alive some (grind arith)
       (steps_chained ss (left_by b) some small (grind arith))
-  steps_chained (Nest ps ∷ ss) alive some small h =
-      let mid = inner_left alive ps in
-      nested (all_rounds n ss) ps n 0 alive some (omega arith) (grind (arith, h)) (grind (arith, h))
-      (steps_chained ss mid some small
-      (subst (λ l. steps_find l ss ≡ true) (left_again ps alive) (grind (arith, h))))
   steps_chained (Flowed f ∷ ss) alive some small h =
       let p = and_parts (flow_finds f) (steps_find [] ss) h in
       both_chained (flow_rounds n f) (all_rounds n ss) alive (any_chained (flow_rounds n f) alive

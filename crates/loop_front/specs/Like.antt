@@ -9,7 +9,7 @@ use Rattle.loop_ir.specs.Loops.{RoundOf, sub_value}
 pub record IsSameRow (n : ℕ) (r s : RoundOf Block) (p q : Place) : Type 0 where
   pub space : q.space ≡ p.space
   pub which : q.which ≡ p.which
-  pub index : sub_value n s.i s.o s.regs q.sub ≡ sub_value n r.i r.o r.regs p.sub
+  pub index : sub_value n s.i s.regs q.sub ≡ sub_value n r.i r.regs p.sub
 
 -- so is each place of the second list, as the one in the first
 abbrev pub AreSameRows : ℕ → RoundOf Block → RoundOf Block → List Place → List Place → Type 0

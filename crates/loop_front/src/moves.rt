@@ -4,14 +4,14 @@ ghost use Rattle.std.specs.Prelude.{◌≡◌, ◌+◌, ◌≤◌, length, map, 
 ghost use Rattle.loop_ir.specs.Plain.{flow_of};
 ghost use Rattle.loop_ir.specs.Flows.FlowOf.{Put};
 ghost use Rattle.loop_ir.specs.declared.ir.Move.TheVariants.{SetI};
-ghost use Rattle.loop_front.specs.Front.{put_all, start, before, after, each_sub, counter};
+ghost use Rattle.loop_front.specs.Front.{put_all, start, before, after, each_sub};
 ghost use Rattle.loop_front.specs.Moments.{moves_at};
 
-use loop_ir::{Count, Flow, Move, Sub};
+use loop_ir::{Flow, Move, Sub};
 use mig_graph::NoMemory;
 use std::alloc::Global;
 
-/// When a subscript's register is moved: at inner index 0, before each round, or after it.
+/// When a subscript's register is moved: at index 0, before each round, or after it.
 #[derive(Clone, Copy, PartialEq, Eq)]
 pub enum Moment {
     Start,
@@ -27,21 +27,14 @@ pub fn put(m: Move, next: Flow, alloc: Global) -> Result<Flow, NoMemory>
     Ok(Flow::Put(m, next))
 }
 
-/// The register gets the subscript's value at inner index 0.
+/// The register gets the subscript's value at index 0.
 fn put_start(s: Sub, r: u8, next: Flow, alloc: Global) -> Result<Flow, NoMemory>
     ensures { IfOk result (λ f. flow_of f ≡ put_all (start s r) (flow_of next)) }
 {
     match s {
         Sub::Zero | Sub::Register(_) => Ok(next),
-        Sub::Top => put(Move::SetT(r), next, alloc),
         Sub::Inner => put(Move::SetI(r, 0), next, alloc),
-        Sub::InnerDown | Sub::NPlusInner => put(Move::SetN(r), next, alloc),
-        Sub::Outer | Sub::Sum => put(Move::Mov(r, 1), next, alloc),
-        Sub::OuterDown | Sub::DownSum => put(Move::Mov(r, 0), next, alloc),
-        Sub::DownPlusN => {
-            let next = put(Move::Add(r, 0), next, alloc)?;
-            put(Move::SetN(r), next, alloc)
-        }
+        Sub::InnerDown => put(Move::SetN(r), next, alloc),
     }
 }
 
@@ -51,8 +44,7 @@ fn put_before(s: Sub, r: u8, next: Flow, alloc: Global) -> Result<Flow, NoMemory
 {
     match s {
         Sub::InnerDown => put(Move::SubI(r, 1), next, alloc),
-        Sub::Zero | Sub::Top | Sub::Inner | Sub::Outer | Sub::OuterDown => Ok(next),
-        Sub::Sum | Sub::DownSum | Sub::DownPlusN | Sub::NPlusInner | Sub::Register(_) => Ok(next),
+        Sub::Zero | Sub::Inner | Sub::Register(_) => Ok(next),
     }
 }
 
@@ -61,11 +53,8 @@ fn put_after(s: Sub, r: u8, next: Flow, alloc: Global) -> Result<Flow, NoMemory>
     ensures { IfOk result (λ f. flow_of f ≡ put_all (after s r) (flow_of next)) }
 {
     match s {
-        Sub::Inner | Sub::Sum | Sub::DownSum | Sub::NPlusInner => {
-            put(Move::AddI(r, 1), next, alloc)
-        }
-        Sub::Zero | Sub::Top | Sub::InnerDown | Sub::Outer | Sub::OuterDown => Ok(next),
-        Sub::DownPlusN | Sub::Register(_) => Ok(next),
+        Sub::Inner => put(Move::AddI(r, 1), next, alloc),
+        Sub::Zero | Sub::InnerDown | Sub::Register(_) => Ok(next),
     }
 }
 
@@ -97,19 +86,6 @@ pub fn put_subs(
         [first, rest @ ..] => {
             let next = put_subs(moment, rest, r + 1, next, alloc)?;
             put_sub(moment, *first, r, next, alloc)
-        }
-    }
-}
-
-/// Register 2 gets the number of rounds.
-pub fn put_counter(count: Count, next: Flow, alloc: Global) -> Result<Flow, NoMemory>
-    ensures { IfOk result (λ f. flow_of f ≡ put_all (counter count) (flow_of next)) }
-{
-    match count {
-        Count::All => put(Move::SetN(2), next, alloc),
-        Count::Rest => {
-            let next = put(Move::AddI(2, 1), next, alloc)?;
-            put(Move::Mov(2, 0), next, alloc)
         }
     }
 }

@@ -4,8 +4,8 @@ ghost use Rattle.std.specs.Prelude.{◌≡◌, ◌+◌, ◌≤◌, ◌++◌, [],
 ghost use Rattle.std.specs.Prelude.{if◌then◌else◌};
 ghost use Rattle.std.specs.List.{list_any};
 ghost use Rattle.loop_ir.specs.Plain.{block_of};
-ghost use Rattle.loop_ir.specs.Costs.{sub_code, same_sub, is_used, used_subs};
-ghost use Rattle.loop_front.specs.Front.{in_register, placed, in_registers};
+ghost use Rattle.loop_ir.specs.Costs.{sub_code, same_sub};
+ghost use Rattle.loop_front.specs.Front.{is_used, used_subs, in_register, placed, in_registers};
 
 use faults::keep;
 use loop_ir::{Body, Place, Sub};
@@ -17,16 +17,9 @@ fn sub_code(s: Sub) -> u16
 {
     match s {
         Sub::Zero => 0,
-        Sub::Top => 1,
-        Sub::Inner => 2,
-        Sub::InnerDown => 3,
-        Sub::Outer => 4,
-        Sub::OuterDown => 5,
-        Sub::Sum => 6,
-        Sub::DownSum => 7,
-        Sub::DownPlusN => 8,
-        Sub::NPlusInner => 9,
-        Sub::Register(r) => 10 + r as u16,
+        Sub::Inner => 1,
+        Sub::InnerDown => 2,
+        Sub::Register(r) => 3 + r as u16,
     }
 }
 
@@ -63,21 +56,14 @@ fn push_used(subs: &mut Vec<Sub>, body: &Body, s: Sub) -> Result<(), NoMemory>
     }
 }
 
-/// The subscripts other than `Zero` that the body's places have.
+/// The subscripts by the index that the body's places have.
 pub fn used_subs(body: &Body, alloc: Global) -> Result<Vec<Sub>, NoMemory>
     ensures are { IfOk result (λ subs. subs.items ≡ used_subs (block_of body.now)) }
-    ensures few { IfOk result (λ subs. length subs.items ≤ 9) }
+    ensures few { IfOk result (λ subs. length subs.items ≤ 2) }
 {
     let mut subs = Vec::new(alloc);
-    push_used(&mut subs, body, Sub::Top)?;
     push_used(&mut subs, body, Sub::Inner)?;
     push_used(&mut subs, body, Sub::InnerDown)?;
-    push_used(&mut subs, body, Sub::Outer)?;
-    push_used(&mut subs, body, Sub::OuterDown)?;
-    push_used(&mut subs, body, Sub::Sum)?;
-    push_used(&mut subs, body, Sub::DownSum)?;
-    push_used(&mut subs, body, Sub::DownPlusN)?;
-    push_used(&mut subs, body, Sub::NPlusInner)?;
     Ok(subs)
 }
 
@@ -100,7 +86,7 @@ fn in_register(subs: &[Sub], r: u8, s: Sub) -> Sub
 
 /// A place whose index is in a register.
 fn placed(subs: &[Sub], place: Place) -> Place
-    requires { length subs.now ≤ 9 }
+    requires { length subs.now ≤ 2 }
     ensures { result ≡ placed subs.now place }
 {
     Place {
@@ -112,7 +98,7 @@ fn placed(subs: &[Sub], place: Place) -> Place
 
 /// The places get their indices in registers.
 fn place_all(subs: &[Sub], places: &mut Vec<Place>)
-    requires { length subs.now ≤ 9 }
+    requires { length subs.now ≤ 2 }
     ensures { places.new.items ≡ map (placed subs.now) places.old.items }
 {
     for k in 0..places.len() {
@@ -123,7 +109,7 @@ fn place_all(subs: &[Sub], places: &mut Vec<Place>)
 /// The body with its indices in registers.
 pub fn in_registers(mut body: Body, subs: &[Sub]) -> Body
     requires are { subs.now ≡ used_subs (block_of body) }
-    requires few { length subs.now ≤ 9 }
+    requires few { length subs.now ≤ 2 }
     ensures { block_of result ≡ in_registers (block_of body) }
 {
     place_all(subs, &mut body.reads);

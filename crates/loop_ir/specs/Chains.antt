@@ -2,9 +2,8 @@
 use Rattle.std.specs.Prelude.{ℕ, ◌==◌, ◌&&◌, Bool, true, List, [], ◌∷◌, if◌then◌else◌}
 use Rattle.std.specs.List.{list_any, list_all}
 use Rattle.loop_ir.specs.declared.ir.Place.{Place}
-use Rattle.loop_ir.specs.Plain.{Block, InnerOf, StepOf}
-use Rattle.loop_ir.specs.Plain.InnerOf.{Alone, Across}
-use Rattle.loop_ir.specs.Plain.StepOf.{Single, Along, Nest, Flowed}
+use Rattle.loop_ir.specs.Plain.{Block, StepOf}
+use Rattle.loop_ir.specs.Plain.StepOf.{Single, Along, Flowed}
 use Rattle.loop_ir.specs.Flows.{FlowOf}
 use Rattle.loop_ir.specs.FlowTests.{widths}
 use Rattle.loop_ir.specs.Loops.{RoundOf, flow_rounds}
@@ -31,18 +30,6 @@ left_by b = states_in b.writes
 abbrev pub loop_finds : List ℕ → Block → Bool
 loop_finds alive b = finds alive b && finds (left_by b) b
 
--- what the parts of a nest leave, done once
-abbrev pub inner_left : List ℕ → List (InnerOf Block) → List ℕ
-inner_left alive [] = alive
-inner_left alive (Alone b ∷ ps) = inner_left (left_by b) ps
-inner_left alive (Across c b ∷ ps) = inner_left (left_by b) ps
-
--- each part of a nest finds its states
-abbrev pub inner_finds : List ℕ → List (InnerOf Block) → Bool
-inner_finds alive [] = true
-inner_finds alive (Alone b ∷ ps) = finds alive b && inner_finds (left_by b) ps
-inner_finds alive (Across c b ∷ ps) = loop_finds alive b && inner_finds (left_by b) ps
-
 -- each round finds the states that it reads among those that the one before it leaves
 abbrev pub chained : List ℕ → List (RoundOf Block) → Bool
 chained alive [] = true
@@ -58,5 +45,3 @@ steps_find alive [] = true
 steps_find alive (Single b ∷ ss) = finds alive b && steps_find (left_by b) ss
 steps_find alive (Along b ∷ ss) = loop_finds alive b && steps_find (left_by b) ss
 steps_find alive (Flowed f ∷ ss) = flow_finds f && steps_find [] ss
-steps_find alive (Nest ps ∷ ss) = inner_finds alive ps && (inner_finds (inner_left alive ps) ps
-    && steps_find (inner_left (inner_left alive ps) ps) ss)

@@ -6,12 +6,9 @@ use Rattle.bit_rows.specs.declared.TheConstants.{WIDTH_MAX}
 use Rattle.mig_graph.specs.Graph.{IsGraph}
 use Rattle.loop_ir.specs.declared.ir.Place.{Place}
 use Rattle.loop_ir.specs.declared.ir.Sub.{Sub}
-use Rattle.loop_ir.specs.declared.ir.Sub.TheVariants.{Zero, Top, Inner as At_inner, InnerDown}
-use Rattle.loop_ir.specs.declared.ir.Sub.TheVariants.{Outer, OuterDown, Sum, DownSum, DownPlusN}
-use Rattle.loop_ir.specs.declared.ir.Sub.TheVariants.{NPlusInner, Register}
-use Rattle.loop_ir.specs.Plain.{Block, InnerOf, StepOf, AllParts}
-use Rattle.loop_ir.specs.Plain.InnerOf.{Alone, Across}
-use Rattle.loop_ir.specs.Plain.StepOf.{Single, Along, Nest, Flowed}
+use Rattle.loop_ir.specs.declared.ir.Sub.TheVariants.{Zero, Inner, InnerDown, Register}
+use Rattle.loop_ir.specs.Plain.{Block, StepOf, AllParts}
+use Rattle.loop_ir.specs.Plain.StepOf.{Single, Along, Flowed}
 use Rattle.loop_ir.specs.Flows.{FlowOf, AllFlow, all_flow}
 use Rattle.loop_ir.specs.FlowTests.{names, counts, nests, runs_safely}
 use Rattle.loop_ir.specs.Loops.{RoundOf, all_rounds}
@@ -22,7 +19,7 @@ use Rattle.row_alloc.specs.Held.{DoesHeld}
 use Rattle.loop_ir.specs.Outputs.{IsOuts}
 use Rattle.loop_ir.specs.States.{StatesFit, row_count, enters, leaves}
 use Rattle.loop_ir.specs.Chains.{steps_find}
-use Rattle.loop_ir.specs.Costs.{plain_cost, used_subs, code_cost, bodies}
+use Rattle.loop_ir.specs.Costs.{plain_cost, code_cost, bodies}
 
 -- the commands that the body carries do it, from the states that it reads to those that it writes
 -- and wherever its rows lie, and are few
@@ -40,43 +37,23 @@ pub record IsSmall (b : Block) : Type 0 where
   pub inputs : b.graph.inputs ≤ 80
   pub outputs : length b.outs ≤ 8
   pub rows : length b.graph.nodes + length b.outs ≤ 32
-  pub subs : length (used_subs b) ≤ 3
 
--- the subscript uses only the indices of the loops in which it stands: an inner one, an outer one
-abbrev pub may_stand : Bool → Bool → Sub → Bool
-may_stand inner outer Zero = true
-may_stand inner outer Top = true
-may_stand inner outer At_inner = inner
-may_stand inner outer InnerDown = inner
-may_stand inner outer Outer = outer
-may_stand inner outer OuterDown = outer
-may_stand inner outer Sum = inner && outer
-may_stand inner outer DownSum = inner && outer
-may_stand inner outer DownPlusN = outer
-may_stand inner outer NPlusInner = inner
-may_stand inner outer (Register r) = false
+-- the subscript uses the index only in a loop
+abbrev pub may_stand : Bool → Sub → Bool
+may_stand in_loop Zero = true
+may_stand in_loop Inner = in_loop
+may_stand in_loop InnerDown = in_loop
+may_stand in_loop (Register r) = false
 
 -- every place of the body has such a subscript
-abbrev pub all_stand : Bool → Bool → Block → Bool
-all_stand inner outer b = list_all (λ p. may_stand inner outer p.sub) (b.reads ++ b.writes)
-
--- so it is in a part of a nest
-abbrev pub inner_stands : InnerOf Block → Bool
-inner_stands (Alone b) = all_stand false true b
-inner_stands (Across count b) = all_stand true true b
+abbrev pub all_stand : Bool → Block → Bool
+all_stand in_loop b = list_all (λ p. may_stand in_loop p.sub) (b.reads ++ b.writes)
 
 -- the subscript is 0 or one of these registers of a flow
 abbrev pub is_in_register : (ℕ → Bool) → Sub → Bool
 is_in_register named Zero = true
-is_in_register named Top = false
-is_in_register named At_inner = false
+is_in_register named Inner = false
 is_in_register named InnerDown = false
-is_in_register named Outer = false
-is_in_register named OuterDown = false
-is_in_register named Sum = false
-is_in_register named DownSum = false
-is_in_register named DownPlusN = false
-is_in_register named NPlusInner = false
 is_in_register named (Register r) = nat_lt r 7 && named r
 
 -- every place of the body has such a subscript
@@ -90,11 +67,10 @@ abbrev pub flow_stands : FlowOf Block → Bool
 flow_stands f = counts f && (nests 2 f && (all_flow (stays_in_registers (λ r. names r f)) f
     && runs_safely f))
 
--- so it is in a step, whose loops have the indices that its subscripts use
+-- so it is in a step: a body that is done once has no index
 abbrev pub step_stands : StepOf Block → Bool
-step_stands (Single b) = all_stand false false b
-step_stands (Along b) = all_stand true false b
-step_stands (Nest parts) = list_all inner_stands parts
+step_stands (Single b) = all_stand false b
+step_stands (Along b) = all_stand true b
 step_stands (Flowed f) = flow_stands f
 
 -- In a round the body's places with rows are rows that it may have, and none of its writes is a
@@ -103,22 +79,22 @@ step_stands (Flowed f) = flow_stands f
 pub record IsRound (may_have : Spot → Type 0) (n : ℕ) (r : RoundOf Block) : Type 0 where
   pub reads : (k : ℕ) → k < length r.part.reads
       → is_state (nth_place r.part.reads k).space ≡ false
-      → may_have (nth_spot n r.i r.o r.regs r.part.reads k)
+      → may_have (nth_spot n r.i r.regs r.part.reads k)
   pub writes : (j : ℕ) → j < length r.part.writes
       → is_state (nth_place r.part.writes j).space ≡ false
-      → may_have (nth_spot n r.i r.o r.regs r.part.writes j)
+      → may_have (nth_spot n r.i r.regs r.part.writes j)
   pub own : (j : ℕ) → j < length r.part.writes
-      → IsOwn (nth_spot n r.i r.o r.regs r.part.writes j).space
+      → IsOwn (nth_spot n r.i r.regs r.part.writes j).space
   pub apart : (i j : ℕ) → i < length r.part.writes → j < length r.part.writes
-      → nth_spot n r.i r.o r.regs r.part.writes i ≡ nth_spot n r.i r.o r.regs r.part.writes j
+      → nth_spot n r.i r.regs r.part.writes i ≡ nth_spot n r.i r.regs r.part.writes j
       → i ≡ j
   pub same : (j k : ℕ) → j < length r.part.writes → k < length r.part.reads
-      → nth_spot n r.i r.o r.regs r.part.writes j ≡ nth_spot n r.i r.o r.regs r.part.reads k
+      → nth_spot n r.i r.regs r.part.writes j ≡ nth_spot n r.i r.regs r.part.reads k
       → nth_place r.part.writes j ≡ nth_place r.part.reads k
   pub once : (j k l : ℕ) → j < length r.part.writes → k < length r.part.reads
-      → l < length r.part.reads → nth_spot n r.i r.o r.regs r.part.writes j
-      ≡ nth_spot n r.i r.o r.regs r.part.reads k → nth_spot n r.i r.o r.regs r.part.writes j
-      ≡ nth_spot n r.i r.o r.regs r.part.reads l → k ≡ l
+      → l < length r.part.reads → nth_spot n r.i r.regs r.part.writes j
+      ≡ nth_spot n r.i r.regs r.part.reads k → nth_spot n r.i r.regs r.part.writes j
+      ≡ nth_spot n r.i r.regs r.part.reads l → k ≡ l
 
 -- the value has a row, at some width, that may be had
 abbrev pub IsHad : (ℕ → Spot → Type 0) → Place → Type 0
@@ -137,7 +113,6 @@ pub record HasValues (may_have : ℕ → Spot → Type 0) (b : Block) : Type 0 w
 abbrev pub StepHasValues : (ℕ → Spot → Type 0) → StepOf Block → Type 0
 StepHasValues may_have (Single b) = Unit {0}
 StepHasValues may_have (Along b) = Unit {0}
-StepHasValues may_have (Nest parts) = Unit {0}
 StepHasValues may_have (Flowed f) = AllFlow (HasValues may_have) f
 
 -- At every width code can be made of the loop program: at most 12 bodies, each small, which find

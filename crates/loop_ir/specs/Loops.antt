@@ -1,53 +1,31 @@
 -- The rounds of a loop program.
-use Rattle.std.specs.Prelude.{ℕ, zero, suc, ◌+◌, ◌-◌, ◌*◌, List, [], ◌∷◌, ◌++◌, slice_index}
+use Rattle.std.specs.Prelude.{ℕ, zero, suc, ◌+◌, ◌-◌, List, [], ◌∷◌, ◌++◌, slice_index}
 use Rattle.loop_ir.specs.declared.ir.Sub.{Sub}
-use Rattle.loop_ir.specs.declared.ir.Sub.TheVariants.{Zero, Top, Inner as At_inner, InnerDown}
-use Rattle.loop_ir.specs.declared.ir.Sub.TheVariants.{Outer, OuterDown, Sum, DownSum, DownPlusN}
-use Rattle.loop_ir.specs.declared.ir.Sub.TheVariants.{NPlusInner, Register}
-use Rattle.loop_ir.specs.declared.ir.Count.{Count}
-use Rattle.loop_ir.specs.declared.ir.Count.TheVariants.{All, Rest}
-use Rattle.loop_ir.specs.Plain.{InnerOf, StepOf}
-use Rattle.loop_ir.specs.Plain.InnerOf.{Alone, Across}
-use Rattle.loop_ir.specs.Plain.StepOf.{Single, Along, Nest, Flowed}
+use Rattle.loop_ir.specs.declared.ir.Sub.TheVariants.{Zero, Inner, InnerDown, Register}
+use Rattle.loop_ir.specs.Plain.{StepOf}
+use Rattle.loop_ir.specs.Plain.StepOf.{Single, Along, Flowed}
 use Rattle.loop_ir.specs.Flows.{FlowOf, EventOf, run, zeros}
 use Rattle.loop_ir.specs.Flows.EventOf.{Done, Moved, Counted}
 
--- the lists at i, i + 1 and so on, as many as the count
-abbrev pub rounds : {A : Type 0} → (ℕ → List A) → ℕ → ℕ → List A
-rounds f i zero = []
-rounds f i (suc count) = f i ++ rounds f (i + 1) count
-
--- one body at one inner and one outer position, or with these registers in a flow
+-- a body at one index, or with these registers in a flow
 pub record RoundOf (A : Type 0) : Type 0 where
   pub part : A
   pub i : ℕ
-  pub o : ℕ
   pub regs : List ℕ
 
--- a body at these positions
-abbrev pub round_at : {A : Type 0} → A → ℕ → ℕ → RoundOf A
-round_at b i o = record { part = b; i = i; o = o; regs = [] }
+-- a body at this index
+abbrev pub round_at : {A : Type 0} → A → ℕ → RoundOf A
+round_at b i = record { part = b; i = i; regs = [] }
 
--- a body that is done once
-abbrev pub one_round : {A : Type 0} → A → ℕ → ℕ → List (RoundOf A)
-one_round b i o = round_at b i o ∷ []
-
--- how many inner positions there are
-abbrev pub positions : ℕ → ℕ → Count → ℕ
-positions n o All = n
-positions n o Rest = n - o
-
--- the rounds of a nest's parts at one outer position
-abbrev pub inner_rounds : {A : Type 0} → ℕ → ℕ → List (InnerOf A) → List (RoundOf A)
-inner_rounds n o [] = []
-inner_rounds n o (Alone b ∷ more) = one_round b 0 o ++ inner_rounds n o more
-inner_rounds n o (Across count b ∷ more) = rounds (λ i. one_round b i o) 0 (positions n o count)
-    ++ inner_rounds n o more
+-- a body at i, i + 1 and so on, as often as the count
+abbrev pub rounds : {A : Type 0} → A → ℕ → ℕ → List (RoundOf A)
+rounds b i zero = []
+rounds b i (suc count) = round_at b i ∷ rounds b (i + 1) count
 
 -- the rounds among the events of a run
 abbrev pub rounds_in : {A : Type 0} → List (EventOf A) → List (RoundOf A)
 rounds_in [] = []
-rounds_in (Done b g ∷ es) = record { part = b; i = 0; o = 0; regs = g } ∷ rounds_in es
+rounds_in (Done b g ∷ es) = record { part = b; i = 0; regs = g } ∷ rounds_in es
 rounds_in (Moved m g ∷ es) = rounds_in es
 rounds_in (Counted r g ∷ es) = rounds_in es
 
@@ -57,9 +35,8 @@ flow_rounds n f = rounds_in (run n f zeros).events
 
 -- the rounds of a step at width n
 abbrev pub step_rounds : {A : Type 0} → ℕ → StepOf A → List (RoundOf A)
-step_rounds n (Single b) = one_round b 0 0
-step_rounds n (Along b) = rounds (λ i. one_round b i 0) 0 n
-step_rounds n (Nest parts) = rounds (λ o. inner_rounds n o parts) 0 n
+step_rounds n (Single b) = round_at b 0 ∷ []
+step_rounds n (Along b) = rounds b 0 n
 step_rounds n (Flowed f) = flow_rounds n f
 
 -- every body at every position, in the order in which they come at width n
@@ -67,16 +44,9 @@ abbrev pub all_rounds : {A : Type 0} → ℕ → List (StepOf A) → List (Round
 all_rounds n [] = []
 all_rounds n (s ∷ ss) = step_rounds n s ++ all_rounds n ss
 
--- the row that a subscript means, at width n, these positions and with these registers
-abbrev pub sub_value : ℕ → ℕ → ℕ → List ℕ → Sub → ℕ
-sub_value n i o g Zero = 0
-sub_value n i o g Top = n - 1
-sub_value n i o g At_inner = i
-sub_value n i o g InnerDown = n - 1 - i
-sub_value n i o g Outer = o
-sub_value n i o g OuterDown = n - 1 - o
-sub_value n i o g Sum = o + i
-sub_value n i o g DownSum = n - 1 - o + i
-sub_value n i o g DownPlusN = 2 * n - 1 - o
-sub_value n i o g NPlusInner = n + i
-sub_value n i o g (Register r) = slice_index g r
+-- the row that a subscript means, at width n, at this index and with these registers
+abbrev pub sub_value : ℕ → ℕ → List ℕ → Sub → ℕ
+sub_value n i g Zero = 0
+sub_value n i g Inner = i
+sub_value n i g InnerDown = n - 1 - i
+sub_value n i g (Register r) = slice_index g r

@@ -4,10 +4,7 @@ use Rattle.mig_graph.specs.declared.Lit.{Lit}
 use Rattle.mig_graph.specs.Graph.{Graph}
 use Rattle.row_alloc.specs.declared.body.BodyCmd.{BodyCmd}
 use Rattle.loop_ir.specs.declared.ir.Place.{Place}
-use Rattle.loop_ir.specs.declared.ir.Count.{Count}
 use Rattle.loop_ir.specs.declared.ir.Body.{Body}
-use Rattle.loop_ir.specs.declared.ir.Inner.{Inner}
-use Rattle.loop_ir.specs.declared.ir.Inner.TheVariants as code_inner
 use Rattle.loop_ir.specs.declared.ir.Step.{Step}
 use Rattle.loop_ir.specs.declared.ir.Step.TheVariants as code_step
 use Rattle.loop_ir.specs.declared.ir.Flow as code_flow
@@ -27,16 +24,10 @@ pub record Block : Type 0 where
   pub writes : List Place
   pub found : List BodyCmd
 
--- a part of a nest: a body once, or at each inner position
-pub data InnerOf (A : Type 0) : Type 0 where
-  Alone : A → InnerOf A
-  Across : Count → A → InnerOf A
-
--- a body once, a body at each position, parts at each outer position, or a flow
+-- a body once, a body at each position, or a flow
 pub data StepOf (A : Type 0) : Type 0 where
   Single : A → StepOf A
   Along : A → StepOf A
-  Nest : List (InnerOf A) → StepOf A
   Flowed : FlowOf A → StepOf A
 
 -- the body that the code built, without where it lies in memory
@@ -48,11 +39,6 @@ block_of b = record {
   writes = b.writes.items;
   found = b.found.items;
 }
-
--- a part of a nest that the code built
-abbrev pub inner_of : Inner → InnerOf Block
-inner_of (code_inner.Once b) = Alone (block_of b)
-inner_of (code_inner.Each count b) = Across count (block_of b)
 
 abbrev mutual
   -- a flow that the code built
@@ -71,36 +57,22 @@ abbrev mutual
 abbrev pub step_of : Step → StepOf Block
 step_of (code_step.Once b) = Single (block_of b)
 step_of (code_step.Each b) = Along (block_of b)
-step_of (code_step.Nest parts) = Nest (map inner_of parts.items)
 step_of (code_step.Flow f) = Flowed (flow_of f)
 
 -- the steps of a loop program that the code built
 abbrev pub steps_of : LoopProgram → List (StepOf Block)
 steps_of p = map step_of p.steps.items
 
--- the same loop over another thing
-abbrev pub inner_map : {A B : Type 0} → (A → B) → InnerOf A → InnerOf B
-inner_map f (Alone a) = Alone (f a)
-inner_map f (Across count a) = Across count (f a)
-
 -- the same loops over other things, made of each body
 abbrev pub step_map : {A B : Type 0} → (A → B) → StepOf A → StepOf B
 step_map f (Single a) = Single (f a)
 step_map f (Along a) = Along (f a)
-step_map f (Nest parts) = Nest (map (inner_map f) parts)
 step_map f (Flowed x) = Flowed (flow_map f x)
-
--- what holds of every body of a nest
-abbrev pub AllInner : {A : Type 0} → (A → Type 0) → List (InnerOf A) → Type 0
-AllInner P [] = Unit {0}
-AllInner P (Alone a ∷ xs) = P a × AllInner P xs
-AllInner P (Across count a ∷ xs) = P a × AllInner P xs
 
 -- what holds of every body of a step
 abbrev pub AllStep : {A : Type 0} → (A → Type 0) → StepOf A → Type 0
 AllStep P (Single a) = P a
 AllStep P (Along a) = P a
-AllStep P (Nest parts) = AllInner P parts
 AllStep P (Flowed x) = AllFlow P x
 
 -- what holds of every body of a loop program

@@ -49,9 +49,9 @@ spot_in n ScratchBit w v = record { space = ScratchBit; which = w; index = 0 }
 spot_in n ScratchWord w v = record { space = ScratchWord; which = 0; index = w * n + v }
 spot_in n Cells w v = record { space = Cells; which = w; index = 0 }
 
--- the row of a place at these positions of a loop
-abbrev pub spot_at : ℕ → ℕ → ℕ → List ℕ → Place → Spot
-spot_at n i o g p = spot_in n p.space p.which (sub_value n i o g p.sub)
+-- the row of a place at this index of a loop
+abbrev pub spot_at : ℕ → ℕ → List ℕ → Place → Spot
+spot_at n i g p = spot_in n p.space p.which (sub_value n i g p.sub)
 
 -- place k of these
 abbrev pub nth_place : List Place → ℕ → Place
@@ -59,16 +59,16 @@ nth_place [] k = record { space = Source; which = 0; sub = Zero }
 nth_place (p ∷ ps) zero = p
 nth_place (p ∷ ps) (suc k) = nth_place ps k
 
--- the row of place k at these positions
-abbrev pub nth_spot : ℕ → ℕ → ℕ → List ℕ → List Place → ℕ → Spot
-nth_spot n i o g ps k = spot_at n i o g (nth_place ps k)
+-- the row of place k at this index
+abbrev pub nth_spot : ℕ → ℕ → List ℕ → List Place → ℕ → Spot
+nth_spot n i g ps k = spot_at n i g (nth_place ps k)
 
 -- all writes, with values that are known
-abbrev pub write_all : ℕ → ℕ → ℕ → List ℕ → (ℕ → Bool) → List Place → List Lit → Spots → Spots
-write_all n i o g env [] ls bits = bits
-write_all n i o g env (p ∷ ps) [] bits = bits
-write_all n i o g env (p ∷ ps) (l ∷ ls) bits = write_all n i o g env ps ls
-    (set_spot bits (spot_at n i o g p) (lit_value env l))
+abbrev pub write_all : ℕ → ℕ → List ℕ → (ℕ → Bool) → List Place → List Lit → Spots → Spots
+write_all n i g env [] ls bits = bits
+write_all n i g env (p ∷ ps) [] bits = bits
+write_all n i g env (p ∷ ps) (l ∷ ls) bits = write_all n i g env ps ls
+    (set_spot bits (spot_at n i g p) (lit_value env l))
 
 -- the value of an output, from the values of the inputs
 abbrev pub gives : Block → (ℕ → Bool) → ℕ → Bool
@@ -76,11 +76,11 @@ gives b v j = value b.graph v (lit_at b.outs j)
 
 -- the graph's nodes on the bits that a round reads
 abbrev pub round_env : ℕ → RoundOf Block → Spots → ℕ → Bool
-round_env n r bits = values r.part.graph (λ k. bits (nth_spot n r.i r.o r.regs r.part.reads k))
+round_env n r bits = values r.part.graph (λ k. bits (nth_spot n r.i r.regs r.part.reads k))
 
 -- a round: all its writes come after all its reads
 abbrev pub after_round : ℕ → RoundOf Block → Spots → Spots
-after_round n r bits = write_all n r.i r.o r.regs (round_env n r bits) r.part.writes r.part.outs
+after_round n r bits = write_all n r.i r.regs (round_env n r bits) r.part.writes r.part.outs
     bits
 
 -- the bits of the rows after rounds, one after another

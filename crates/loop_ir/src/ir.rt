@@ -5,29 +5,15 @@ ghost use Rattle.std.specs.Prelude.{◌≡◌};
 use mig_graph::MigOuts;
 use row_alloc::BodyCmd;
 
-/// The position of a row in what it belongs to, at width n, at inner index i and outer index o.
+/// The position of a row in what it belongs to, at width n and index i.
 #[derive(Clone, Copy, PartialEq, Eq)]
 pub enum Sub {
     /// 0.
     Zero,
-    /// n - 1.
-    Top,
     /// i.
     Inner,
     /// n - 1 - i.
     InnerDown,
-    /// o.
-    Outer,
-    /// n - 1 - o.
-    OuterDown,
-    /// o + i.
-    Sum,
-    /// n - 1 - o + i.
-    DownSum,
-    /// 2n - 1 - o.
-    DownPlusN,
-    /// n + i.
-    NPlusInner,
     /// What this register holds, in a flow.
     Register(u8),
 }
@@ -88,20 +74,6 @@ impl Drop for Body {
     }
 }
 
-/// How far an inner loop runs: from 0 to n - 1, or to n - 1 - o. It is never without a round.
-#[derive(Clone, Copy, PartialEq, Eq)]
-pub enum Count {
-    All,
-    Rest,
-}
-
-/// A part of a nest: a body at each outer position, once or in a loop of its own.
-#[derive(Drop)]
-pub enum Inner {
-    Once(Body),
-    Each(Count, Body),
-}
-
 /// What is done to a register of a flow; these are 0 to 6.
 #[derive(Clone, Copy, PartialEq, Eq)]
 pub enum Move {
@@ -145,13 +117,11 @@ pub enum Turns {
     Turn(Box<Flow>, Box<Turns>),
 }
 
-/// A body done once or at each position, parts done one after another at each outer position, or a
-/// flow.
+/// A body done once or at each position, or a flow.
 #[derive(Drop)]
 pub enum Step {
     Once(Body),
     Each(Body),
-    Nest(Vec<Inner>),
     /// A flow, whose registers hold 0 as it begins.
     Flow(Flow),
 }

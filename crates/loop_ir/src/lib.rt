@@ -1,4 +1,4 @@
-//! Loop programs: bodies that are done once, at each position, in two nested loops, or in a flow.
+//! Loop programs: bodies that are done once, at each position, or in a flow.
 #![tactic(auto)]
 
 mod ir;
@@ -6,7 +6,7 @@ mod names;
 mod rows;
 mod wells;
 
-pub use ir::{Body, Count, Flow, Inner, LoopProgram, Move, Place, Space, Step, Sub, Turns};
+pub use ir::{Body, Flow, LoopProgram, Move, Place, Space, Step, Sub, Turns};
 pub use names::{NameMap, Slot};
 pub use rows::{out_rows, place_at};
 pub use wells::well_formed;

@@ -1,14 +1,13 @@
 //! When a loop program is well formed.
 
-ghost use Rattle.std.specs.Prelude.{◌≡◌, ◌↔◌, ◌<◌, ℕ, true, length, map, ◌∷◌, []};
+ghost use Rattle.std.specs.Prelude.{◌≡◌, ◌↔◌, ◌<◌, ℕ, true, length, map};
 ghost use Rattle.mig_graph.specs.Outputs.{AreNamed};
-ghost use Rattle.loop_ir.specs.Plain.{block_of, inner_of, step_of, steps_of, flow_of};
-ghost use Rattle.loop_ir.specs.Plain.{acts_of, AllInner, AllStep};
+ghost use Rattle.loop_ir.specs.Plain.{block_of, step_of, steps_of, flow_of, acts_of, AllStep};
 ghost use Rattle.loop_ir.specs.Flows.{AllFlow, AllActs};
 ghost use Rattle.loop_ir.specs.Spots.{nth_place};
 ghost use Rattle.loop_ir.specs.WellFormed.{IsOneValue, IsWellFormed, AreWellFormed};
 
-use crate::ir::{Body, Flow, Inner, LoopProgram, Place, Step, Turns};
+use crate::ir::{Body, Flow, LoopProgram, Place, Step, Turns};
 use mig_graph::MigOuts;
 
 /// Whether the two places are rows of one value.
@@ -106,26 +105,6 @@ fn is_well_formed(b: &Body) -> bool
         && all_agree(&b.writes, &b.reads)
 }
 
-/// Whether the bodies of a part of a nest are well formed.
-fn part_is_well_formed(part: &Inner) -> bool
-    ensures { (result ≡ true) ↔ AllInner IsWellFormed (inner_of part.now ∷ []) }
-{
-    match part {
-        Inner::Once(body) => is_well_formed(body),
-        Inner::Each(_, body) => is_well_formed(body),
-    }
-}
-
-/// Whether the bodies of a nest are well formed.
-fn parts_are_well_formed(parts: &[Inner]) -> bool
-    ensures { (result ≡ true) ↔ AllInner IsWellFormed (map inner_of parts.now) }
-{
-    match parts {
-        [] => true,
-        [first, rest @ ..] => { part_is_well_formed(first) && parts_are_well_formed(rest) }
-    }
-}
-
 /// Whether the bodies of a flow are well formed.
 #[cycle(flows)]
 fn flow_is_well_formed(flow: &Flow) -> bool
@@ -160,7 +139,6 @@ fn step_is_well_formed(step: &Step) -> bool
     match step {
         Step::Once(body) => is_well_formed(body),
         Step::Each(body) => is_well_formed(body),
-        Step::Nest(parts) => parts_are_well_formed(parts),
         Step::Flow(flow) => flow_is_well_formed(flow),
     }
 }

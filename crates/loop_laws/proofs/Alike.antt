@@ -9,17 +9,16 @@ use Rattle.std.proofs.lemmas.Bool.{cases_Bool}
 use Rattle.std.proofs.lemmas.List.{length-map}
 use Rattle.mig_graph.specs.declared.Lit.{Lit}
 use Rattle.loop_ir.specs.declared.ir.Place.{Place}
-use Rattle.loop_ir.specs.Plain.{Block, InnerOf, StepOf, inner_map}
-use Rattle.loop_ir.specs.Plain.InnerOf.{Alone, Across}
+use Rattle.loop_ir.specs.Plain.{Block, StepOf}
 use Rattle.std.proofs.lemmas.List.Sums.{sum_by-cons}
 use Rattle.loop_ir.specs.Loops.{RoundOf, flow_rounds, all_rounds}
 use Rattle.loop_ir.specs.Chains.{chained, flow_finds, states_in, is_alive, finds, left_by}
-use Rattle.loop_ir.specs.Chains.{inner_left, inner_finds, steps_find}
+use Rattle.loop_ir.specs.Chains.{steps_find}
 use Rattle.loop_ir.specs.Flows.{FlowOf, flow_map}
 use Rattle.loop_ir.specs.FlowTests.{widths}
 use Rattle.loop_laws.proofs.FlowRounds.{round_map, flow_rounds_map}
 use Rattle.loop_laws.proofs.RoundsMap.{all_rounds_map}
-use Rattle.loop_ir.specs.Plain.StepOf.{Single, Along, Nest, Flowed}
+use Rattle.loop_ir.specs.Plain.StepOf.{Single, Along, Flowed}
 use Rattle.loop_ir.specs.Spots.{is_state, nth_place}
 use Rattle.loop_ir.specs.States.{has_states, row_count, RowsFirst, enters, leaves, row_outs}
 use Rattle.loop_ir.specs.States.{StatesFit}
@@ -110,28 +109,6 @@ module _ (rooms : List Room) (rows : HaveRows rooms) where
   pub left_like : (b : Marked) → left_by (placed_body rooms b) ≡ left_by (placed_body [] b)
   left_like b = states_like b.writes
 
-  inner_left_like : (alive : List ℕ) (ps : List (InnerOf Marked))
-      → inner_left alive (map (inner_map (placed_body rooms)) ps)
-      ≡ inner_left alive (map (inner_map (placed_body [])) ps)
-  inner_left_like alive [] = refl
-  inner_left_like alive (Alone b ∷ ps) = rw (states_like b.writes) (inner_left_like _ ps)
-  inner_left_like alive (Across c b ∷ ps) = rw (states_like b.writes) (inner_left_like _ ps)
-
-  inner_finds_like : (alive : List ℕ) (ps : List (InnerOf Marked))
-      → inner_finds alive (map (inner_map (placed_body rooms)) ps)
-      ≡ inner_finds alive (map (inner_map (placed_body [])) ps)
-  inner_finds_like alive [] = refl
-  inner_finds_like alive (Alone b ∷ ps) = rw (
-    states_like b.reads,
-    states_like b.writes,
-    inner_finds_like (left_by (placed_body [] b)) ps,
-  )
-  inner_finds_like alive (Across k b ∷ ps) = rw (
-    states_like b.reads,
-    states_like b.writes,
-    inner_finds_like (left_by (placed_body [] b)) ps,
-  )
-
   rounds_find_like : (alive : List ℕ) (rs : List (RoundOf Marked))
       → chained alive (map (round_map (placed_body rooms)) rs)
       ≡ chained alive (map (round_map (placed_body [])) rs)
@@ -171,15 +148,6 @@ module _ (rooms : List Room) (rows : HaveRows rooms) where
     steps_find_like (left_by (placed_body [] b)) ss,
   )
   steps_find_like alive (Flowed x ∷ ss) = rw (flow_find_like x, steps_find_like [] ss)
-  steps_find_like alive (Nest ps ∷ ss) =
-      let l = inner_left alive (map (inner_map (placed_body [])) ps) in
-      rw (
-        inner_left_like alive ps,
-        inner_left_like l ps,
-        inner_finds_like alive ps,
-        inner_finds_like l ps,
-        steps_find_like (inner_left l (map (inner_map (placed_body [])) ps)) ss,
-      )
 
   pub plain_like : (b : Marked) → plain_cost (placed_body rooms b) ≡ plain_cost (placed_body [] b)
   plain_like b = rw (outs_like b.writes b.outs)

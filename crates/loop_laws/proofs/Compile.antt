@@ -1,8 +1,7 @@
 -- Code can be made of a program of such a form, whose graphs are such as `Mig` makes.
 use Rattle.std.proofs.Common.{ℕ, ◌≤◌, List, [], ◌∷◌, length, arith}
-use Rattle.loop_ir.specs.Plain.{Block, InnerOf, StepOf, AllInner, AllStep, AllParts}
-use Rattle.loop_ir.specs.Plain.InnerOf.{Alone, Across}
-use Rattle.loop_ir.specs.Plain.StepOf.{Single, Along, Nest, Flowed}
+use Rattle.loop_ir.specs.Plain.{Block, StepOf, AllStep, AllParts}
+use Rattle.loop_ir.specs.Plain.StepOf.{Single, Along, Flowed}
 use Rattle.loop_ir.specs.Flows.{FlowOf, TurnsOf, AllFlow, AllActs}
 use Rattle.loop_ir.specs.Flows.FlowOf.{End, Do, Put, If, Loop}
 use Rattle.loop_ir.specs.Flows.TurnsOf.{Last, Turn}
@@ -14,11 +13,6 @@ use Rattle.loop_laws.specs.Laws.{MadeCompile}
 
 -- what follows for each body from two facts of it
 module _ (P Q R : Block → Type 0) (f : (b : Block) → P b → Q b → R b) where
-  inner_both : (xs : List (InnerOf Block)) → AllInner P xs → AllInner Q xs → AllInner R xs
-  inner_both [] p q = tt
-  inner_both (Alone b ∷ xs) p q = (f b p.0 q.0, inner_both xs p.1 q.1)
-  inner_both (Across c b ∷ xs) p q = (f b p.0 q.0, inner_both xs p.1 q.1)
-
   mutual
     flow_both : (x : FlowOf Block) → AllFlow P x → AllFlow Q x → AllFlow R x
     flow_both End p q = tt
@@ -35,7 +29,6 @@ module _ (P Q R : Block → Type 0) (f : (b : Block) → P b → Q b → R b) wh
   step_both : (s : StepOf Block) → AllStep P s → AllStep Q s → AllStep R s
   step_both (Single b) p q = f b p q
   step_both (Along b) p q = f b p q
-  step_both (Nest xs) p q = inner_both xs p q
   step_both (Flowed x) p q = flow_both x p q
 
   parts_both : (ss : List (StepOf Block)) → AllParts P ss → AllParts Q ss → AllParts R ss

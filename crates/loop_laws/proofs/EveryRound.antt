@@ -8,30 +8,25 @@ use Rattle.std.proofs.lemmas.Bool.Decides.{nat_tests}
 use Rattle.std.proofs.lemmas.Bool.{cases_eq, cases_lt, and_parts}
 use Rattle.std.proofs.lemmas.List.{length-map}
 use Rattle.bit_rows.specs.declared.TheConstants.{WIDTH_MAX}
-use Rattle.loop_ir.specs.Loops.{RoundOf, round_at, one_round, rounds, positions}
-use Rattle.loop_ir.specs.Loops.{sub_value, inner_rounds, all_rounds}
+use Rattle.loop_ir.specs.Loops.{RoundOf, round_at, rounds, sub_value, all_rounds}
 use Rattle.loop_ir.specs.declared.ir.Space.{Space}
 use Rattle.loop_ir.specs.declared.ir.Space.TheVariants.{Result, Source, ScratchBit, ScratchWord}
 use Rattle.loop_ir.specs.declared.ir.Space.TheVariants.{Cells}
 use Rattle.loop_ir.specs.declared.ir.Sub.{Sub}
-use Rattle.loop_ir.specs.declared.ir.Count.{Count}
-use Rattle.loop_ir.specs.declared.ir.Count.TheVariants.{All, Rest}
 use Rattle.loop_ir.specs.declared.ir.Place.{Place}
-use Rattle.loop_ir.specs.Plain.{Block, InnerOf, StepOf, AllInner, AllParts, inner_map}
-use Rattle.loop_ir.specs.Plain.InnerOf.{Alone, Across}
-use Rattle.loop_ir.specs.Plain.StepOf.{Single, Along, Nest, Flowed}
+use Rattle.loop_ir.specs.Plain.{Block, StepOf, AllParts}
+use Rattle.loop_ir.specs.Plain.StepOf.{Single, Along, Flowed}
 use Rattle.loop_ir.specs.Spots.{Spot, spot_at, spot_in, nth_place, nth_spot, IsOwn, is_state}
 use Rattle.loop_ir.specs.WellFormed.{IsOneValue}
 use Rattle.loop_ir.specs.Limits.{HasCommands, IsRound, StepHasValues}
 use Rattle.loop_laws.specs.Rooms.{Extent, extent, Room, room_at, room_for, Owner, InRoom}
 use Rattle.loop_laws.specs.Rooms.{InCells, Mark, Marked, placed, placed_body, placed_steps, row_in}
-use Rattle.loop_laws.specs.Rooms.{IsOwned, RoomsApart, Reach, Nowhere, Whole, Left, is_long}
-use Rattle.loop_laws.specs.Rooms.{has_inner, is_left, fits, reach_of, all_fit, writes_fit}
-use Rattle.loop_laws.specs.Rooms.{body_fits, inners_fit, steps_fit}
-use Rattle.loop_laws.specs.Forms.{IsSlim, has_room, inners_have_room, steps_have_room}
-use Rattle.loop_laws.specs.Forms.{states_fit, inners_states_fit, steps_states_fit}
+use Rattle.loop_laws.specs.Rooms.{IsOwned, RoomsApart, is_long, fits, all_fit, writes_fit}
+use Rattle.loop_laws.specs.Rooms.{body_fits, steps_fit}
+use Rattle.loop_laws.specs.Forms.{IsSlim, has_room, steps_have_room, states_fit}
+use Rattle.loop_laws.specs.Forms.{steps_states_fit}
 use Rattle.loop_laws.specs.Laws.{MarksAreEnough}
-use Rattle.loop_laws.proofs.Fitting.{mark_at, IsThere, InnerOk, OuterOk}
+use Rattle.loop_laws.proofs.Fitting.{mark_at, IsThere, IndexOk}
 use Rattle.loop_laws.proofs.Alike.{HaveRows, past_row, tested_fit, steps_find_like}
 use Rattle.loop_laws.proofs.Good.{WriteAt, fit_at, write_at, writes_once, alone_sub, alone_once}
 
@@ -44,26 +39,11 @@ long n w e = grind arith
 pub first : (n : ℕ) (w : Extent) → 0 < n → 0 < extent n w
 first n w h = grind arith
 
-inner_ok : (n i o : ℕ) (r : Reach) → InnerOk n i o r
-    → (has_inner r ≡ true → i < n) × (is_left r ≡ true → i < n - o)
-inner_ok n i o Nowhere ok = ((λ e. cc), (λ e. cc))
-inner_ok n i o Whole ok = ((λ e. ok), (λ e. cc))
-inner_ok n i o Left ok = ((λ e. omega (arith, ok)), (λ e. ok))
-
-outer_below : (n o : ℕ) (b : Bool) → OuterOk n o b → b ≡ true → o < n
-outer_below n o true ok e = ok
-outer_below n o false ok e = cc
-
 -- a subscript that fits stays below the number of rows
-pub within : (n i o : ℕ) (r : Reach) (outer : Bool) (w : Extent) (u : Sub) → 0 < n → InnerOk n i o r
-    → OuterOk n o outer → fits r outer w u ≡ true → sub_value n i o [] u < extent n w
-within n i o r outer w u h ik ok e = by n i o r outer w u h (inner_ok n i o r ik)
-    (outer_below n o outer ok) e
-  where
-    by : (n i o : ℕ) (r : Reach) (outer : Bool) (w : Extent) (u : Sub) → 0 < n
-        → (has_inner r ≡ true → i < n) × (is_left r ≡ true → i < n - o)
-        → (outer ≡ true → o < n) → fits r outer w u ≡ true → sub_value n i o [] u < extent n w
-    by n i o r outer w u h x y e = grind arith
+pub within : (n i : ℕ) (in_loop : Bool) (w : Extent) (u : Sub) → 0 < n → IndexOk n i in_loop
+    → fits in_loop w u ≡ true → sub_value n i [] u < extent n w
+within n i true w u h ok e = grind arith
+within n i false w u h ok e = grind arith
 
 pub nth_placed : (rooms : List Room) (ms : List Mark) (k : ℕ) → k < length ms
     → nth_place (map (placed rooms) ms) k ≡ placed rooms (mark_at ms k)
@@ -136,56 +116,51 @@ module _ (n : ℕ) (rooms : List Room) (are : RoomsApart n rooms) (rows : HaveRo
   own_of (InRoom k) there w = are.own k there w
   own_of (InCells x) there w = tt
 
-first_ok : (n : ℕ) (r : Reach) → 0 < n → InnerOk n 0 0 r
-first_ok n Nowhere some = tt
-first_ok n Whole some = some
-first_ok n Left some = omega arith
-
-outer_ok : (n : ℕ) (outer : Bool) → 0 < n → OuterOk n 0 outer
-outer_ok n true some = some
-outer_ok n false some = tt
+first_ok : (n : ℕ) (in_loop : Bool) → 0 < n → IndexOk n 0 in_loop
+first_ok n true some = some
+first_ok n false some = tt
 
 -- a place that fits has a row of its owner
-record Lies (n i o : ℕ) (rooms : List Room) (ms : List Mark) (k : ℕ) : Type 0 where
+record Lies (n i : ℕ) (rooms : List Room) (ms : List Mark) (k : ℕ) : Type 0 where
   there : IsThere rooms (mark_at ms k).owner
-  below : sub_value n i o [] (mark_at ms k).sub < extent n (room_for rooms (mark_at ms k).owner).rows
+  below : sub_value n i [] (mark_at ms k).sub < extent n (room_for rooms (mark_at ms k).owner).rows
   place : nth_place (map (placed rooms) ms) k ≡ placed rooms (mark_at ms k)
 
-lies : (n i o : ℕ) (r : Reach) (outer : Bool) (rooms : List Room) (ms : List Mark) → 0 < n
-    → InnerOk n i o r → OuterOk n o outer → all_fit r outer rooms ms ≡ true → (k : ℕ)
-    → k < length (map (placed rooms) ms) → Lies n i o rooms ms k
-lies n i o r outer rooms ms some ik ok e k lt =
+lies : (n i : ℕ) (in_loop : Bool) (rooms : List Room) (ms : List Mark) → 0 < n
+    → IndexOk n i in_loop → all_fit in_loop rooms ms ≡ true → (k : ℕ)
+    → k < length (map (placed rooms) ms) → Lies n i rooms ms k
+lies n i in_loop rooms ms some ok e k lt =
     let l = below_map (placed rooms) ms k lt in
-    let f = fit_at r outer rooms ms k e l in
+    let f = fit_at in_loop rooms ms k e l in
     record {
       there = f.there;
-      below = within n i o r outer _ (mark_at ms k).sub some ik ok f.fit;
+      below = within n i in_loop _ (mark_at ms k).sub some ok f.fit;
       place = nth_placed rooms ms k l;
     }
 
 module _ (n : ℕ) (rooms : List Room) (are : RoomsApart n rooms) (rows : HaveRows rooms) where
-  module _ (i o : ℕ) where
+  module _ (i : ℕ) where
     abbrev Row : List Mark → ℕ → Spot
-    Row ms k = nth_spot n i o [] (map (placed rooms) ms) k
+    Row ms k = nth_spot n i [] (map (placed rooms) ms) k
 
     -- rows that are one have one owner
-    meets : (ms ns : List Mark) (j k : ℕ) → Lies n i o rooms ms j → Lies n i o rooms ns k
+    meets : (ms ns : List Mark) (j k : ℕ) → Lies n i rooms ms j → Lies n i rooms ns k
         → (room_for rooms (mark_at ms j).owner).written ≡ true → Row ms j ≡ Row ns k
         → (mark_at ms j).owner ≡ (mark_at ns k).owner
     meets ms ns j k x y w e = elim (owner_cases (mark_at ms j).owner (mark_at ns k).owner) [
       | inl c ↦ c
       | inr ne ↦ absurd (owners_apart n rooms are rows _ _ _ _ x.there y.there w ne x.below y.below
-          (sym (ap (spot_at n i o []) x.place) ∙ e ∙ ap (spot_at n i o []) y.place))
+          (sym (ap (spot_at n i []) x.place) ∙ e ∙ ap (spot_at n i []) y.place))
     ]
 
-    had : (ms : List Mark) (k : ℕ) → Lies n i o rooms ms k
+    had : (ms : List Mark) (k : ℕ) → Lies n i rooms ms k
         → is_state (nth_place (map (placed rooms) ms) k).space ≡ false → IsOwned n rooms (Row ms k)
     had ms k x row = owned_at n rooms are rows _ _ _ x.there
         (sym (ap (λ (p : Place). is_state p.space) x.place) ∙ row) x.below
-        (ap (spot_at n i o []) x.place)
+        (ap (spot_at n i []) x.place)
 
   -- places of one value have one owner
-  one_owner : (ms ns : List Mark) (j k : ℕ) → Lies n 0 0 rooms ms j → Lies n 0 0 rooms ns k → 0 < n
+  one_owner : (ms ns : List Mark) (j k : ℕ) → Lies n 0 rooms ms j → Lies n 0 rooms ns k → 0 < n
       → (room_for rooms (mark_at ms j).owner).written ≡ true
       → IsOneValue (nth_place (map (placed rooms) ms) j) (nth_place (map (placed rooms) ns) k)
       → (mark_at ms j).owner ≡ (mark_at ns k).owner
@@ -202,91 +177,82 @@ module _ (n : ℕ) (rooms : List Room) (are : RoomsApart n rooms) (rows : HaveRo
         (first n b.rows some) (cc (s, t)))
   ]
 
-  module _ (some : 0 < n) (r : Reach) (outer : Bool) (b : Marked)
-      (e : body_fits r outer rooms b ≡ true) where
-    reads : all_fit r outer rooms b.reads ≡ true
-    reads = grind arith
+  module _ (some : 0 < n) (in_loop : Bool) (b : Marked) (e : body_fits in_loop rooms b ≡ true)
+    where
+      reads : all_fit in_loop rooms b.reads ≡ true
+      reads = grind arith
 
-    writes : all_fit r outer rooms b.writes ≡ true
-    writes = grind arith
+      writes : all_fit in_loop rooms b.writes ≡ true
+      writes = grind arith
 
-    fit : writes_fit rooms b.reads b.writes ≡ true
-    fit = grind arith
+      fit : writes_fit rooms b.reads b.writes ≡ true
+      fit = grind arith
 
-    at : (j : ℕ) → j < length (map (placed rooms) b.writes)
-        → WriteAt rooms b.reads (mark_at b.writes j)
-    at j lj = write_at rooms b.reads b.writes j fit (below_map (placed rooms) b.writes j lj)
+      at : (j : ℕ) → j < length (map (placed rooms) b.writes)
+          → WriteAt rooms b.reads (mark_at b.writes j)
+      at j lj = write_at rooms b.reads b.writes j fit (below_map (placed rooms) b.writes j lj)
 
-    round_is : (i o : ℕ) → InnerOk n i o r → OuterOk n o outer
-        → IsRound (IsOwned n rooms) n (round_at (placed_body rooms b) i o)
-    round_is i o ik ok =
-        let rd = below_map (placed rooms) b.reads in
-        let wr = below_map (placed rooms) b.writes in
-        let x = lies n i o r outer rooms b.reads some ik ok reads in
-        let y = lies n i o r outer rooms b.writes some ik ok writes in
-        record {
-          reads = λ k lk row. had i o b.reads k (x k lk) row;
-          writes = λ j lj row. had i o b.writes j (y j lj) row;
-          own = λ j lj. (let w = room_for rooms (mark_at b.writes j).owner in
-              subst (λ (q : Spot). IsOwn q.space) (sym (ap (spot_at n i o []) (y j lj).place))
-              (own_spot n w.space w.which _
-              (own_of n rooms are rows _ (y j lj).there (at j lj).written)));
-          apart = λ i' j li lj h. writes_once rooms b.reads b.writes i' j fit (wr i' li) (wr j lj)
-              (meets i o b.writes b.writes i' j (y i' li) (y j lj) (at i' li).written h);
-          same = λ j k lj lk h.
-              (let c = meets i o b.writes b.reads j k (y j lj) (x k lk) (at j lj).written h in
-              (y j lj).place ∙ placed_same rooms (mark_at b.writes j) (mark_at b.reads k) c
-              (alone_sub (mark_at b.writes j) b.reads k (at j lj).alone (rd k lk) c)
-              ∙ sym (x k lk).place);
-          once = λ j k l lj lk ll h g. alone_once (mark_at b.writes j) b.reads k l (at j lj).alone
-              (rd k lk) (rd l ll)
-              (meets i o b.writes b.reads j k (y j lj) (x k lk) (at j lj).written h)
-              (meets i o b.writes b.reads j l (y j lj) (x l ll) (at j lj).written g);
-        }
+      round_is : (i : ℕ) → IndexOk n i in_loop
+          → IsRound (IsOwned n rooms) n (round_at (placed_body rooms b) i)
+      round_is i ok =
+          let rd = below_map (placed rooms) b.reads in
+          let wr = below_map (placed rooms) b.writes in
+          let x = lies n i in_loop rooms b.reads some ok reads in
+          let y = lies n i in_loop rooms b.writes some ok writes in
+          record {
+            reads = λ k lk row. had i b.reads k (x k lk) row;
+            writes = λ j lj row. had i b.writes j (y j lj) row;
+            own = λ j lj. (let w = room_for rooms (mark_at b.writes j).owner in
+                subst (λ (q : Spot). IsOwn q.space) (sym (ap (spot_at n i []) (y j lj).place))
+                (own_spot n w.space w.which _
+                (own_of n rooms are rows _ (y j lj).there (at j lj).written)));
+            apart = λ i' j li lj h. writes_once rooms b.reads b.writes i' j fit (wr i' li) (wr j lj)
+                (meets i b.writes b.writes i' j (y i' li) (y j lj) (at i' li).written h);
+            same = λ j k lj lk h.
+                (let c = meets i b.writes b.reads j k (y j lj) (x k lk) (at j lj).written h in
+                (y j lj).place ∙ placed_same rooms (mark_at b.writes j) (mark_at b.reads k) c
+                (alone_sub (mark_at b.writes j) b.reads k (at j lj).alone (rd k lk) c)
+                ∙ sym (x k lk).place);
+            once = λ j k l lj lk ll h g. alone_once (mark_at b.writes j) b.reads k l (at j lj).alone
+                (rd k lk) (rd l ll)
+                (meets i b.writes b.reads j k (y j lj) (x k lk) (at j lj).written h)
+                (meets i b.writes b.reads j l (y j lj) (x l ll) (at j lj).written g);
+          }
 
-    slim_is : has_room (placed_body rooms b) ≡ true → states_fit (placed_body [] b) ≡ true
-        → HasCommands (placed_body rooms b) → IsSlim (placed_body rooms b)
-    slim_is h k commands =
-        let c = placed_body rooms b in
-        let rd = below_map (placed rooms) b.reads in
-        let wr = below_map (placed rooms) b.writes in
-        let x = lies n 0 0 r outer rooms b.reads some (first_ok n r some) (outer_ok n outer some)
-        reads in
-        let y = lies n 0 0 r outer rooms b.writes some (first_ok n r some) (outer_ok n outer some)
-        writes in
-        record {
-          reads = grind (arith, nat_tests);
-          states = tested_fit rooms rows b k (grind (arith, nat_tests));
-          commands = commands;
-          apart = λ i j li lj h. writes_once rooms b.reads b.writes i j fit (wr i li) (wr j lj)
-              (one_owner b.writes b.writes i j (y i li) (y j lj) some (at i li).written h);
-          same = λ j k lj lk h.
-              ap (λ (p : Place). p.sub) (y j lj).place
-              ∙ alone_sub (mark_at b.writes j) b.reads k (at j lj).alone (rd k lk)
-              (one_owner b.writes b.reads j k (y j lj) (x k lk) some (at j lj).written h)
-              ∙ sym (ap (λ (p : Place). p.sub) (x k lk).place);
-          inputs = grind (arith, nat_tests);
-          outputs = grind (arith, nat_tests);
-          rows = grind (arith, nat_tests);
-          subs = grind (arith, nat_tests);
-        }
+      slim_is : has_room (placed_body rooms b) ≡ true → states_fit (placed_body [] b) ≡ true
+          → HasCommands (placed_body rooms b) → IsSlim (placed_body rooms b)
+      slim_is h k commands =
+          let c = placed_body rooms b in
+          let rd = below_map (placed rooms) b.reads in
+          let wr = below_map (placed rooms) b.writes in
+          let x = lies n 0 in_loop rooms b.reads some (first_ok n in_loop some) reads in
+          let y = lies n 0 in_loop rooms b.writes some (first_ok n in_loop some) writes in
+          record {
+            reads = grind (arith, nat_tests);
+            states = tested_fit rooms rows b k (grind (arith, nat_tests));
+            commands = commands;
+            apart = λ i j li lj h. writes_once rooms b.reads b.writes i j fit (wr i li) (wr j lj)
+                (one_owner b.writes b.writes i j (y i li) (y j lj) some (at i li).written h);
+            same = λ j k lj lk h.
+                ap (λ (p : Place). p.sub) (y j lj).place
+                ∙ alone_sub (mark_at b.writes j) b.reads k (at j lj).alone (rd k lk)
+                (one_owner b.writes b.reads j k (y j lj) (x k lk) some (at j lj).written h)
+                ∙ sym (ap (λ (p : Place). p.sub) (x k lk).place);
+            inputs = grind (arith, nat_tests);
+            outputs = grind (arith, nat_tests);
+            rows = grind (arith, nat_tests);
+          }
 
 pub all_append : {A : Type 0} (P : A → Type 0) (xs ys : List A) → AllByRecursion P xs
     → AllByRecursion P ys → AllByRecursion P (xs ++ ys)
 all_append P [] ys a b = b
 all_append P (x ∷ xs) ys a b = (a.0, all_append P xs ys a.1 b)
 
-pub all_rounds_of : {A : Type 0} (P : A → Type 0) (f : ℕ → List A) (i count limit : ℕ)
-    → i + count ≡ limit → ((j : ℕ) → j < limit → AllByRecursion P (f j))
-    → AllByRecursion P (rounds f i count)
-all_rounds_of P f i zero limit e h = tt
-all_rounds_of P f i (suc count) limit e h = all_append P (f i) (rounds f (i + 1) count)
-    (h i (omega arith)) (all_rounds_of P f (i + 1) count limit (omega arith) h)
-
-reach_ok : (n : ℕ) (c : Count) (i o : ℕ) → o < n → i < positions n o c
-    → InnerOk n i o (reach_of c)
-reach_ok n All i o lo lt = lt
-reach_ok n Rest i o lo lt = lt
+rounds_of : (P : RoundOf Block → Type 0) (b : Block) (i count limit : ℕ) → i + count ≡ limit
+    → ((j : ℕ) → j < limit → P (round_at b j)) → AllByRecursion P (rounds b i count)
+rounds_of P b i zero limit e h = tt
+rounds_of P b i (suc count) limit e h =
+    (h i (omega arith), rounds_of P b (i + 1) count limit (omega arith) h)
 
 -- the rows that it may have are among others
 pub round_among : (P Q : Spot → Type 0) → ((q : Spot) → P q → Q q) → (n : ℕ) (r : RoundOf Block)
@@ -325,57 +291,16 @@ module _ (may_have : ℕ → Spot → Type 0) (rooms : List Room) (rows : HaveRo
   abbrev Rounds : (ℕ → List (RoundOf Block)) → Type 0
   Rounds f = (n : ℕ) → 0 < n → n ≤ WIDTH_MAX → AllByRecursion (IsRound (may_have n) n) (f n)
 
-  round : (n i o : ℕ) → 0 < n → n ≤ WIDTH_MAX → (r : Reach) (outer : Bool) (b : Marked)
-      → body_fits r outer rooms b ≡ true → InnerOk n i o r → OuterOk n o outer
-      → IsRound (may_have n) n (round_at (placed_body rooms b) i o)
-  round n i o some most r outer b e ik ok = round_among (IsOwned n rooms) (may_have n)
-      (among n some most) n _ (round_is n rooms (are n some most) rows some r outer b e i o ik ok)
+  round : (n i : ℕ) → 0 < n → n ≤ WIDTH_MAX → (in_loop : Bool) (b : Marked)
+      → body_fits in_loop rooms b ≡ true → IndexOk n i in_loop
+      → IsRound (may_have n) n (round_at (placed_body rooms b) i)
+  round n i some most in_loop b e ok = round_among (IsOwned n rooms) (may_have n)
+      (among n some most) n _ (round_is n rooms (are n some most) rows some in_loop b e i ok)
 
-  slim : (r : Reach) (outer : Bool) (b : Marked) → body_fits r outer rooms b ≡ true
+  slim : (in_loop : Bool) (b : Marked) → body_fits in_loop rooms b ≡ true
       → has_room (placed_body rooms b) ≡ true → states_fit (placed_body [] b) ≡ true
       → HasCommands (placed_body rooms b) → IsSlim (placed_body rooms b)
-  slim r outer b = slim_is 1 rooms (are 1 (omega arith) (omega arith)) rows (omega arith) r outer b
-
-  loop : (n o : ℕ) → 0 < n → n ≤ WIDTH_MAX → (r : Reach) (outer : Bool) (b : Marked)
-      → body_fits r outer rooms b ≡ true → OuterOk n o outer → (count : ℕ)
-      → ((i : ℕ) → i < count → InnerOk n i o r) → AllByRecursion (IsRound (may_have n) n)
-      (rounds (λ i. one_round (placed_body rooms b) i o) 0 count)
-  loop n o some most r outer b e ok count ik = all_rounds_of (IsRound (may_have n) n)
-      (λ i. one_round (placed_body rooms b) i o) 0 count count (omega arith)
-      (λ i lt. (round n i o some most r outer b e (ik i lt) ok, tt))
-
-  record InnersFine (ps : List (InnerOf Block)) : Type 0 where
-    slim : AllInner IsSlim ps
-    rounds : (n o : ℕ) → 0 < n → n ≤ WIDTH_MAX → o < n
-        → AllByRecursion (IsRound (may_have n) n) (inner_rounds n o ps)
-
-  inners_fine : (ps : List (InnerOf Marked)) → inners_fit rooms ps ≡ true
-      → inners_have_room (map (inner_map (placed_body rooms)) ps) ≡ true
-      → inners_states_fit (map (inner_map (placed_body [])) ps) ≡ true
-      → AllInner HasCommands (map (inner_map (placed_body rooms)) ps)
-      → InnersFine (map (inner_map (placed_body rooms)) ps)
-  inners_fine [] e h k does = record { slim = tt; rounds = λ n o some most lo. tt }
-  inners_fine (Alone b ∷ ps) e h k does =
-      let x = and_parts (body_fits Nowhere true rooms b) _ e in
-      let y = and_parts (has_room (placed_body rooms b)) _ h in
-      let z = and_parts (states_fit (placed_body [] b)) _ k in
-      let more = inners_fine ps x.1 y.1 z.1 does.1 in
-      record {
-        slim = (slim Nowhere true b x.0 y.0 z.0 does.0, more.slim);
-        rounds = λ n o some most lo.
-            (round n 0 o some most Nowhere true b x.0 tt lo, more.rounds n o some most lo);
-      }
-  inners_fine (Across c b ∷ ps) e h k does =
-      let x = and_parts (body_fits (reach_of c) true rooms b) _ e in
-      let y = and_parts (has_room (placed_body rooms b)) _ h in
-      let z = and_parts (states_fit (placed_body [] b)) _ k in
-      let more = inners_fine ps x.1 y.1 z.1 does.1 in
-      record {
-        slim = (slim (reach_of c) true b x.0 y.0 z.0 does.0, more.slim);
-        rounds = λ n o some most lo. all_append _ _ _
-            (loop n o some most (reach_of c) true b x.0 lo (positions n o c)
-            (λ i lt. reach_ok n c i o lo lt)) (more.rounds n o some most lo);
-      }
+  slim in_loop b = slim_is 1 rooms (are 1 (omega arith) (omega arith)) rows (omega arith) in_loop b
 
   record StepsFine (ss : List (StepOf Block)) : Type 0 where
     slim : AllParts IsSlim ss
@@ -388,40 +313,26 @@ module _ (may_have : ℕ → Spot → Type 0) (rooms : List Room) (rows : HaveRo
       → AllParts HasCommands (placed_steps rooms ss) → StepsFine (placed_steps rooms ss)
   steps_fine [] e h k does = record { slim = tt; values = tt; rounds = λ n some most. tt }
   steps_fine (Single b ∷ ss) e h k does =
-      let x = and_parts (body_fits Nowhere false rooms b) _ e in
+      let x = and_parts (body_fits false rooms b) _ e in
       let y = and_parts (has_room (placed_body rooms b)) _ h in
       let z = and_parts (states_fit (placed_body [] b)) _ k in
       let more = steps_fine ss x.1 y.1 z.1 does.1 in
       record {
-        slim = (slim Nowhere false b x.0 y.0 z.0 does.0, more.slim);
+        slim = (slim false b x.0 y.0 z.0 does.0, more.slim);
         values = (tt, more.values);
-        rounds = λ n some most.
-            (round n 0 0 some most Nowhere false b x.0 tt tt, more.rounds n some most);
+        rounds = λ n some most. (round n 0 some most false b x.0 tt, more.rounds n some most);
       }
   steps_fine (Along b ∷ ss) e h k does =
-      let x = and_parts (body_fits Whole false rooms b) _ e in
+      let x = and_parts (body_fits true rooms b) _ e in
       let y = and_parts (has_room (placed_body rooms b)) _ h in
       let z = and_parts (states_fit (placed_body [] b)) _ k in
       let more = steps_fine ss x.1 y.1 z.1 does.1 in
       record {
-        slim = (slim Whole false b x.0 y.0 z.0 does.0, more.slim);
+        slim = (slim true b x.0 y.0 z.0 does.0, more.slim);
         values = (tt, more.values);
         rounds = λ n some most. all_append _ _ _
-            (loop n 0 some most Whole false b x.0 tt n (λ i lt. lt)) (more.rounds n some most);
-      }
-  steps_fine (Nest ps ∷ ss) e h k does =
-      let x = and_parts (inners_fit rooms ps) _ e in
-      let y = and_parts (inners_have_room (map (inner_map (placed_body rooms)) ps)) _ h in
-      let z = and_parts (inners_states_fit (map (inner_map (placed_body [])) ps)) _ k in
-      let here = inners_fine ps x.0 y.0 z.0 does.0 in
-      let more = steps_fine ss x.1 y.1 z.1 does.1 in
-      record {
-        slim = (here.slim, more.slim);
-        values = (tt, more.values);
-        rounds = λ n some most. all_append _ _ _
-            (all_rounds_of (IsRound (may_have n) n)
-            (λ o. inner_rounds n o (map (inner_map (placed_body rooms)) ps)) 0 n n (omega arith)
-            (λ o lt. here.rounds n o some most lt)) (more.rounds n some most);
+            (rounds_of (IsRound (may_have n) n) (placed_body rooms b) 0 n n (omega arith)
+            (λ i lt. round n i some most true b x.0 lt)) (more.rounds n some most);
       }
   steps_fine (Flowed x ∷ ss) e h k does = cc
 

@@ -1,8 +1,7 @@
 -- What a body's places keep where the test on owners and subscripts passes.
-use Rattle.std.proofs.Common.{ℕ, zero, suc, ◌-◌, ◌<◌, Bool, true, false, List, [], ◌∷◌, length}
+use Rattle.std.proofs.Common.{ℕ, zero, suc, ◌<◌, Bool, true, false, List, [], ◌∷◌, length}
 use Rattle.loop_ir.specs.declared.ir.Sub.TheVariants as sub
-use Rattle.loop_laws.specs.Rooms.{Room, Owner, InRoom, InCells, Mark, Reach}
-use Rattle.loop_laws.specs.Rooms.{Nowhere, Whole, Left}
+use Rattle.loop_laws.specs.Rooms.{Room, Owner, InRoom, InCells, Mark}
 
 -- a place of a body, by its number
 abbrev pub mark_at : List Mark → ℕ → Mark
@@ -15,13 +14,7 @@ abbrev pub IsThere : List Room → Owner → Type 0
 IsThere rooms (InRoom k) = k < length rooms
 IsThere rooms (InCells w) = Unit {0}
 
--- the inner index is one that the loop reaches
-abbrev pub InnerOk : ℕ → ℕ → ℕ → Reach → Type 0
-InnerOk n i o Nowhere = Unit {0}
-InnerOk n i o Whole = i < n
-InnerOk n i o Left = i < n - o
-
--- the outer index is one, where the body stands in a nest
-abbrev pub OuterOk : ℕ → ℕ → Bool → Type 0
-OuterOk n o true = o < n
-OuterOk n o false = Unit {0}
+-- the index is one of the loop's, where the body stands in one
+abbrev pub IndexOk : ℕ → ℕ → Bool → Type 0
+IndexOk n i true = i < n
+IndexOk n i false = Unit {0}

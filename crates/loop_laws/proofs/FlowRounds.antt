@@ -91,14 +91,14 @@ module _ (A B : Type 0) (h : A → B) (n : ℕ) where
 
 -- the same round, of another body
 abbrev pub round_map : {A B : Type 0} → (A → B) → RoundOf A → RoundOf B
-round_map h r = record { part = h r.part; i = r.i; o = r.o; regs = r.regs }
+round_map h r = record { part = h r.part; i = r.i; regs = r.regs }
 
 module _ (A B : Type 0) (h : A → B) (n : ℕ) where
   rounds_map : (es : List (EventOf A)) → rounds_in (map (event_map A B h n) es)
       ≡ map (round_map h) (rounds_in es)
   rounds_map [] = refl
   rounds_map (Done b g ∷ es) =
-      ap (λ l. record { part = h b; i = 0; o = 0; regs = g } ∷ l) (rounds_map es)
+      ap (λ l. record { part = h b; i = 0; regs = g } ∷ l) (rounds_map es)
   rounds_map (Moved m g ∷ es) = rounds_map es
   rounds_map (Counted r g ∷ es) = rounds_map es
 

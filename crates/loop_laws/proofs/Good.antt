@@ -7,7 +7,7 @@ use Rattle.std.proofs.lemmas.Bool.{cases_Bool, and_parts, eq-eqb}
 use Rattle.loop_ir.specs.Costs.{sub_code}
 use Rattle.loop_laws.proofs.Same.{sub_true}
 use Rattle.loop_laws.specs.Rooms.{Room, room_for, Owner, InRoom, InCells, same_owner, Mark}
-use Rattle.loop_laws.specs.Rooms.{Reach, fits, is_there, all_fit}
+use Rattle.loop_laws.specs.Rooms.{fits, is_there, all_fit}
 use Rattle.loop_laws.specs.Rooms.{none_like, alone_in, writes_fit}
 use Rattle.loop_laws.proofs.Fitting.{mark_at, IsThere}
 
@@ -116,13 +116,13 @@ writes_once rooms reads (p ∷ ms) (suc i) (suc j) e li lj h =
     ap suc (writes_once rooms reads ms i j (first_at rooms reads p ms e).more (omega arith)
     (omega arith) h)
 
-pub record FitAt (r : Reach) (outer : Bool) (rooms : List Room) (p : Mark) : Type 0 where
+pub record FitAt (in_loop : Bool) (rooms : List Room) (p : Mark) : Type 0 where
   pub there : IsThere rooms p.owner
-  pub fit : fits r outer (room_for rooms p.owner).rows p.sub ≡ true
+  pub fit : fits in_loop (room_for rooms p.owner).rows p.sub ≡ true
 
-pub fit_at : (r : Reach) (outer : Bool) (rooms : List Room) (ms : List Mark) (k : ℕ)
-    → all_fit r outer rooms ms ≡ true → k < length ms → FitAt r outer rooms (mark_at ms k)
-fit_at r outer rooms [] k e lt = absurd (omega arith)
-fit_at r outer rooms (p ∷ ms) zero e lt =
+pub fit_at : (in_loop : Bool) (rooms : List Room) (ms : List Mark) (k : ℕ)
+    → all_fit in_loop rooms ms ≡ true → k < length ms → FitAt in_loop rooms (mark_at ms k)
+fit_at in_loop rooms [] k e lt = absurd (omega arith)
+fit_at in_loop rooms (p ∷ ms) zero e lt =
     record { there = there_is rooms p.owner (grind arith); fit = grind arith }
-fit_at r outer rooms (p ∷ ms) (suc k) e lt = fit_at r outer rooms ms k (grind arith) (omega arith)
+fit_at in_loop rooms (p ∷ ms) (suc k) e lt = fit_at in_loop rooms ms k (grind arith) (omega arith)

@@ -4,7 +4,6 @@ pub mod FlowFine
 pub mod FlowRounds
 pub mod RoundsMap
 pub mod Same
-pub mod Loop
 pub mod Summed
 pub mod Costing
 pub mod Fitting

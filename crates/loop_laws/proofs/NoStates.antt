@@ -3,14 +3,11 @@ use Rattle.std.proofs.Common.{◌≡◌, ℕ, suc, ◌<◌, true, false, List, [
 use Rattle.std.proofs.Common.{length, refl, arith}
 use Rattle.std.specs.List.{list_any, list_all, AllByRecursion}
 use Rattle.loop_ir.specs.declared.ir.Place.{Place}
-use Rattle.loop_ir.specs.Plain.{Block, InnerOf, StepOf, AllInner, AllParts}
-use Rattle.loop_ir.specs.Plain.InnerOf.{Alone, Across}
-use Rattle.loop_ir.specs.Plain.StepOf.{Single, Along, Nest, Flowed}
+use Rattle.loop_ir.specs.Plain.{Block, StepOf, AllParts}
+use Rattle.loop_ir.specs.Plain.StepOf.{Single, Along, Flowed}
 use Rattle.loop_ir.specs.Spots.{is_state, nth_place}
 use Rattle.loop_ir.specs.States.{has_states}
-use Rattle.loop_ir.specs.Chains.{states_in, inner_left}
-use Rattle.loop_ir.specs.Chains.{inner_finds, steps_find, chained}
-use Rattle.loop_ir.specs.Chains.{flow_finds}
+use Rattle.loop_ir.specs.Chains.{states_in, steps_find, chained, flow_finds}
 pub use Rattle.loop_laws.proofs.Alike.{rows_fit}
 use Rattle.loop_laws.proofs.Alike.{or_parts}
 use Rattle.loop_ir.specs.Flows.{FlowOf, AllFlow, zeros}
@@ -43,12 +40,6 @@ none_in : (ps qs : List Place) → list_any (λ p. is_state p.space) (ps ++ qs) 
 none_in [] qs none = refl
 none_in (p ∷ ps) qs none = rw (or_parts (is_state p.space) _ none).0 (none_in ps qs (grind arith))
 
-inner_rows : (alive : List ℕ) (ps : List (InnerOf Block)) → AllInner HasRows ps
-    → inner_finds alive ps ≡ true
-inner_rows alive [] all = refl
-inner_rows alive (Alone b ∷ ps) all = rw (none_in b.reads b.writes all.0) (inner_rows _ ps all.1)
-inner_rows alive (Across c b ∷ ps) all = rw (none_in b.reads b.writes all.0) (inner_rows _ ps all.1)
-
 rounds_rows : (alive : List ℕ) (rs : List (RoundOf Block))
     → AllByRecursion (λ r. HasRows r.part) rs → chained alive rs ≡ true
 rounds_rows alive [] all = refl
@@ -73,7 +64,3 @@ no_state_sought alive (Single b ∷ ss) all = rw (none_in b.reads b.writes all.0
 no_state_sought alive (Along b ∷ ss) all = rw (none_in b.reads b.writes all.0)
     (no_state_sought _ ss all.1)
 no_state_sought alive (Flowed f ∷ ss) all = rw (flow_rows f all.0) (no_state_sought [] ss all.1)
-no_state_sought alive (Nest ps ∷ ss) all = rw (
-  inner_rows alive ps all.0,
-  inner_rows (inner_left alive ps) ps all.0,
-) (no_state_sought _ ss all.1)

@@ -49,30 +49,30 @@ set_other bits p v q ne = elim (cases_Bool (same_spot q p)) [
   | inr e ↦ rw e
 ]
 
-module _ (n i o : ℕ) (g : List ℕ) (env : ℕ → Bool) where
+module _ (n i : ℕ) (g : List ℕ) (env : ℕ → Bool) where
   pub write_other : (ps : List Place) (ls : List Lit) (bits : Spots) (q : Spot)
-      → ((j : ℕ) → j < length ls → q ≡ spot_at n i o g (nth_place ps j) → ⊥)
-      → write_all n i o g env ps ls bits q ≡ bits q
+      → ((j : ℕ) → j < length ls → q ≡ spot_at n i g (nth_place ps j) → ⊥)
+      → write_all n i g env ps ls bits q ≡ bits q
   write_other [] ls bits q out = refl
   write_other (p ∷ ps) [] bits q out = refl
   write_other (p ∷ ps) (l ∷ ls) bits q out =
-      write_other ps ls (set_spot bits (spot_at n i o g p) (lit_value env l)) q
+      write_other ps ls (set_spot bits (spot_at n i g p) (lit_value env l)) q
       (λ j lt. out (suc j) (omega arith))
-      ∙ set_other bits (spot_at n i o g p) (lit_value env l) q (out 0 (omega arith))
+      ∙ set_other bits (spot_at n i g p) (lit_value env l) q (out 0 (omega arith))
 
   pub write_at : (ps : List Place) (ls : List Lit) (bits : Spots) → length ls ≤ length ps
       → ((a b : ℕ) → a < length ls → b < length ls
-      → spot_at n i o g (nth_place ps a) ≡ spot_at n i o g (nth_place ps b) → a ≡ b) → (j : ℕ)
-      → j < length ls → write_all n i o g env ps ls bits (spot_at n i o g (nth_place ps j))
+      → spot_at n i g (nth_place ps a) ≡ spot_at n i g (nth_place ps b) → a ≡ b) → (j : ℕ)
+      → j < length ls → write_all n i g env ps ls bits (spot_at n i g (nth_place ps j))
       ≡ lit_value env (lit_at ls j)
   write_at ps [] bits enough apart j lt = absurd (omega arith)
   write_at [] (k ∷ ls) bits enough apart j lt = absurd (omega arith)
   write_at (p ∷ ps) (k ∷ ls) bits enough apart zero lt =
-      write_other ps ls (set_spot bits (spot_at n i o g p) (lit_value env k)) (spot_at n i o g p)
+      write_other ps ls (set_spot bits (spot_at n i g p) (lit_value env k)) (spot_at n i g p)
       (λ j lt h. let z : 0 ≡ suc j = apart 0 (suc j) (omega arith) (omega arith) h in
       absurd (omega arith))
-      ∙ set_same bits (spot_at n i o g p) (lit_value env k) (spot_at n i o g p) refl
+      ∙ set_same bits (spot_at n i g p) (lit_value env k) (spot_at n i g p) refl
   write_at (p ∷ ps) (k ∷ ls) bits enough apart (suc j) lt =
-      write_at ps ls (set_spot bits (spot_at n i o g p) (lit_value env k)) (omega arith)
+      write_at ps ls (set_spot bits (spot_at n i g p) (lit_value env k)) (omega arith)
       (λ a b la lb h. let z : suc a ≡ suc b =
       apart (suc a) (suc b) (omega arith) (omega arith) h in omega arith) j (omega arith)

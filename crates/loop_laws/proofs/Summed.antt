@@ -4,9 +4,8 @@ use Rattle.std.proofs.Common.{arith}
 use Rattle.std.specs.Prelude.{sum_by}
 use Rattle.std.proofs.lemmas.List.Sums.{sum_by-cons, sum_by-append}
 use Rattle.loop_ir.specs.Plain.{Block, StepOf}
-use Rattle.loop_ir.specs.Plain.StepOf.{Single, Along, Nest, Flowed}
-use Rattle.loop_ir.specs.Loops.{RoundOf, round_at, one_round, rounds, step_rounds}
-use Rattle.loop_ir.specs.Loops.{all_rounds, flow_rounds}
+use Rattle.loop_ir.specs.Plain.StepOf.{Single, Along, Flowed}
+use Rattle.loop_ir.specs.Loops.{RoundOf, round_at, rounds, all_rounds, flow_rounds}
 
 -- a number of each body, summed over all rounds
 abbrev pub rounds_sum : (Block → ℕ) → List (RoundOf Block) → ℕ
@@ -17,7 +16,6 @@ abbrev pub steps_sum : (Block → ℕ) → ℕ → List (StepOf Block) → ℕ
 steps_sum f n [] = 0
 steps_sum f n (Single b ∷ ss) = f b + steps_sum f n ss
 steps_sum f n (Along b ∷ ss) = n * f b + steps_sum f n ss
-steps_sum f n (Nest ps ∷ ss) = rounds_sum f (step_rounds n (Nest ps)) + steps_sum f n ss
 steps_sum f n (Flowed x ∷ ss) = rounds_sum f (flow_rounds n x) + steps_sum f n ss
 
 module _ (f : Block → ℕ) where
@@ -29,23 +27,20 @@ module _ (f : Block → ℕ) where
       → rounds_sum f (rs ++ ss) ≡ rounds_sum f rs + rounds_sum f ss
   sum_append rs ss = sum_by-append (λ (r : RoundOf Block). f r.part) rs ss
 
-  sum_each : (b : Block) (o i count : ℕ) → rounds_sum f (rounds (λ j. one_round b j o) i count)
-      ≡ count * f b
-  sum_each b o i zero = omega arith
-  sum_each b o i (suc count) =
-      let e = sum_each b o (i + 1) count in
-      let a = more (round_at b i o) (rounds (λ j. one_round b j o) (i + 1) count) in
+  sum_each : (b : Block) (i count : ℕ) → rounds_sum f (rounds b i count) ≡ count * f b
+  sum_each b i zero = omega arith
+  sum_each b i (suc count) =
+      let e = sum_each b (i + 1) count in
+      let a = more (round_at b i) (rounds b (i + 1) count) in
       omega (arith, a, e)
 
   pub sum_is : (n : ℕ) (ss : List (StepOf Block))
       → rounds_sum f (all_rounds n ss) ≡ steps_sum f n ss
   sum_is n [] = refl
   sum_is n (Single b ∷ ss) = let e = sum_is n ss in
-      let a = more (round_at b 0 0) (all_rounds n ss) in omega (arith, a, e)
+      let a = more (round_at b 0) (all_rounds n ss) in omega (arith, a, e)
   sum_is n (Along b ∷ ss) = let e = sum_is n ss in
-      let a = sum_append (rounds (λ j. one_round b j 0) 0 n) (all_rounds n ss) in
-      let c = sum_each b 0 0 n in omega (arith, e, a, c)
-  sum_is n (Nest ps ∷ ss) = let e = sum_is n ss in
-      let a = sum_append (step_rounds n (Nest ps)) (all_rounds n ss) in omega (arith, e, a)
+      let a = sum_append (rounds b 0 n) (all_rounds n ss) in
+      let c = sum_each b 0 n in omega (arith, e, a, c)
   sum_is n (Flowed x ∷ ss) = let e = sum_is n ss in
       let a = sum_append (flow_rounds n x) (all_rounds n ss) in omega (arith, e, a)

@@ -5,9 +5,8 @@ use Rattle.std.specs.List.{AllByRecursion, list_all}
 use Rattle.bit_rows.specs.declared.TheConstants.{WIDTH_MAX}
 use Rattle.mig_graph.specs.Graph.{IsGraph}
 use Rattle.mig_graph.specs.Outputs.{AreNamed}
-use Rattle.loop_ir.specs.Plain.{Block, InnerOf, StepOf, AllParts}
-use Rattle.loop_ir.specs.Plain.InnerOf.{Alone, Across}
-use Rattle.loop_ir.specs.Plain.StepOf.{Single, Along, Nest, Flowed}
+use Rattle.loop_ir.specs.Plain.{Block, StepOf, AllParts}
+use Rattle.loop_ir.specs.Plain.StepOf.{Single, Along, Flowed}
 use Rattle.loop_ir.specs.Flows.{all_flow}
 use Rattle.loop_ir.specs.Loops.{all_rounds}
 use Rattle.loop_ir.specs.declared.ir.Place.{Place}
@@ -15,7 +14,7 @@ use Rattle.loop_ir.specs.Spots.{Spot, is_state, nth_place}
 use Rattle.loop_ir.specs.WellFormed.{IsOneValue}
 use Rattle.loop_ir.specs.States.{StatesFit, has_states}
 use Rattle.loop_ir.specs.Chains.{steps_find}
-use Rattle.loop_ir.specs.Costs.{used_subs, code_cost, bodies}
+use Rattle.loop_ir.specs.Costs.{code_cost, bodies}
 use Rattle.loop_ir.specs.Limits.{HasCommands, IsRound, StepHasValues, step_stands}
 
 -- a body's places and numbers, but for its nodes
@@ -31,7 +30,6 @@ pub record IsSlim (b : Block) : Type 0 where
   pub inputs : b.graph.inputs ≤ 80
   pub outputs : length b.outs ≤ 8
   pub rows : length b.graph.nodes + length b.outs ≤ 32
-  pub subs : length (used_subs b) ≤ 3
 
 -- a body's graph is one that `Mig` makes
 pub record IsMade (b : Block) : Type 0 where
@@ -56,21 +54,13 @@ has_room b =
     && (length b.outs == length b.writes
     && (nat_le b.graph.inputs 80
     && (nat_le (length b.outs) 8
-    && (nat_le (length b.graph.nodes + length b.outs) 32
-    && nat_le (length (used_subs b)) 3))))
-
--- every body of a nest keeps these bounds
-abbrev pub inners_have_room : List (InnerOf Block) → Bool
-inners_have_room [] = true
-inners_have_room (Alone b ∷ ps) = has_room b && inners_have_room ps
-inners_have_room (Across c b ∷ ps) = has_room b && inners_have_room ps
+    && nat_le (length b.graph.nodes + length b.outs) 32)))
 
 -- every body of a loop program keeps these bounds
 abbrev pub steps_have_room : List (StepOf Block) → Bool
 steps_have_room [] = true
 steps_have_room (Single b ∷ ss) = has_room b && steps_have_room ss
 steps_have_room (Along b ∷ ss) = has_room b && steps_have_room ss
-steps_have_room (Nest ps ∷ ss) = inners_have_room ps && steps_have_room ss
 steps_have_room (Flowed f ∷ ss) = all_flow has_room f && steps_have_room ss
 
 -- a loop program is small enough that its code is within the limits: the test that a written
@@ -90,18 +80,11 @@ abbrev pub states_fit : Block → Bool
 states_fit b = if has_states b then nat_le (length b.reads) b.graph.inputs
     && are_rows_first b.writes else true
 
--- so it is in every body of a nest
-abbrev pub inners_states_fit : List (InnerOf Block) → Bool
-inners_states_fit [] = true
-inners_states_fit (Alone b ∷ ps) = states_fit b && inners_states_fit ps
-inners_states_fit (Across c b ∷ ps) = states_fit b && inners_states_fit ps
-
 -- so it is in every body of a loop program
 abbrev pub steps_states_fit : List (StepOf Block) → Bool
 steps_states_fit [] = true
 steps_states_fit (Single b ∷ ss) = states_fit b && steps_states_fit ss
 steps_states_fit (Along b ∷ ss) = states_fit b && steps_states_fit ss
-steps_states_fit (Nest ps ∷ ss) = inners_states_fit ps && steps_states_fit ss
 steps_states_fit (Flowed f ∷ ss) = all_flow states_fit f && steps_states_fit ss
 
 -- each body with states keeps these rules, and finds the states that it reads

@@ -1,18 +1,12 @@
--- The laws of loops, for those who prove things of loop programs.
+-- The laws of loop programs.
 use Rattle.std.specs.Prelude.{◌≡◌, ℕ, ◌<◌, ◌≤◌, true, false, List, []}
 use Rattle.bit_rows.specs.declared.TheConstants.{WIDTH_MAX}
 use Rattle.loop_ir.specs.Plain.{Block, StepOf, AllParts}
-use Rattle.loop_ir.specs.Spots.{Spot, Spots, is_state}
+use Rattle.loop_ir.specs.Spots.{Spot, is_state}
 use Rattle.loop_ir.specs.WellFormed.{AreWellFormed}
 use Rattle.loop_ir.specs.Limits.{HasCommands, CanCompile}
-use Rattle.loop_laws.specs.Turns.{Origin, IsLoop, Turns, after_many}
 use Rattle.loop_laws.specs.Rooms.{Room, Marked, RoomsApart, IsOwned, steps_fit, placed_steps}
 use Rattle.loop_laws.specs.Forms.{HasForm, IsMade, is_short, keeps_states}
-
--- A loop gives what its body gives by positions.
-abbrev pub LoopsTurn : Type 0
-LoopsTurn = (n o count : ℕ) (b : Block) (origins : List Origin) → IsLoop n o count b origins
-    → (bits : Spots) → Turns n o b origins bits (after_many n o b count bits) count
 
 -- Code can be made, over rows that it may have, of a program of that form with such graphs.
 abbrev pub MadeCompile : (ℕ → Spot → Type 0) → Type 0

@@ -1,5 +1,4 @@
--- What loops compute, by positions, and when every round keeps the rules.
-pub mod Turns
+-- When every round of a loop program keeps the rules, so that code can be made of it.
 pub mod Rooms
 pub mod Forms
 pub mod Laws

@@ -8,12 +8,9 @@ use Rattle.loop_ir.specs.declared.ir.Space.{Space}
 use Rattle.loop_ir.specs.declared.ir.Space.TheVariants.{Source, Cells}
 use Rattle.loop_ir.specs.declared.ir.Sub.{Sub}
 use Rattle.loop_ir.specs.declared.ir.Sub.TheVariants as sub
-use Rattle.loop_ir.specs.declared.ir.Count.{Count}
-use Rattle.loop_ir.specs.declared.ir.Count.TheVariants.{All, Rest}
 use Rattle.loop_ir.specs.declared.ir.Place.{Place}
-use Rattle.loop_ir.specs.Plain.{Block, InnerOf, StepOf, step_map}
-use Rattle.loop_ir.specs.Plain.InnerOf.{Alone, Across}
-use Rattle.loop_ir.specs.Plain.StepOf.{Single, Along, Nest, Flowed}
+use Rattle.loop_ir.specs.Plain.{Block, StepOf, step_map}
+use Rattle.loop_ir.specs.Plain.StepOf.{Single, Along, Flowed}
 use Rattle.loop_ir.specs.Spots.{Spot, spot_in, IsOwn}
 use Rattle.loop_ir.specs.Costs.{sub_code}
 
@@ -107,47 +104,17 @@ pub record RoomsApart (n : ℕ) (rooms : List Room) : Type 0 where
   pub own : (k : ℕ) → k < length rooms → (room_at rooms k).written ≡ true
       → IsOwn (room_at rooms k).space
 
--- how far the inner index goes: there is none, up to n, or up to what is left of the outer index
-pub data Reach : Type 0 where
-  Nowhere : Reach
-  Whole : Reach
-  Left : Reach
-
 -- an owner with a row at each position of a word
 abbrev pub is_long : Extent → Bool
 is_long One = false
 is_long Full = true
 
--- the body is done at each inner position
-abbrev pub has_inner : Reach → Bool
-has_inner Nowhere = false
-has_inner Whole = true
-has_inner Left = true
-
--- the inner positions are those that are left of the outer one
-abbrev pub is_left : Reach → Bool
-is_left Nowhere = false
-is_left Whole = false
-is_left Left = true
-
--- the subscript stays within so many rows: no owner has the rows from n on
-abbrev pub fits : Reach → Bool → Extent → Sub → Bool
-fits r outer w sub.Zero = true
-fits r outer w sub.Top = is_long w
-fits r outer w sub.Inner = is_long w && has_inner r
-fits r outer w sub.InnerDown = is_long w && has_inner r
-fits r outer w sub.Outer = is_long w && outer
-fits r outer w sub.OuterDown = is_long w && outer
-fits r outer w sub.Sum = is_long w && (outer && is_left r)
-fits r outer w sub.DownSum = false
-fits r outer w sub.DownPlusN = false
-fits r outer w sub.NPlusInner = false
-fits r outer w (sub.Register k) = false
-
--- how far the positions of a nest's part go
-abbrev pub reach_of : Count → Reach
-reach_of All = Whole
-reach_of Rest = Left
+-- the subscript stays within so many rows: by the index only in a loop over an owner of n rows
+abbrev pub fits : Bool → Extent → Sub → Bool
+fits in_loop w sub.Zero = true
+fits in_loop w sub.Inner = is_long w && in_loop
+fits in_loop w sub.InnerDown = is_long w && in_loop
+fits in_loop w (sub.Register k) = false
 
 -- there is such an owner among so many
 abbrev pub is_there : Owner → ℕ → Bool
@@ -155,10 +122,10 @@ is_there (InRoom k) count = nat_lt k count
 is_there (InCells w) count = true
 
 -- each place has an owner and stays in its rows
-abbrev pub all_fit : Reach → Bool → List Room → List Mark → Bool
-all_fit r outer rooms [] = true
-all_fit r outer rooms (m ∷ ms) = (is_there m.owner (length rooms)
-    && fits r outer (room_for rooms m.owner).rows m.sub) && all_fit r outer rooms ms
+abbrev pub all_fit : Bool → List Room → List Mark → Bool
+all_fit in_loop rooms [] = true
+all_fit in_loop rooms (m ∷ ms) = (is_there m.owner (length rooms)
+    && fits in_loop (room_for rooms m.owner).rows m.sub) && all_fit in_loop rooms ms
 
 -- none of these places has this owner
 abbrev pub none_like : Owner → List Mark → Bool
@@ -178,21 +145,14 @@ writes_fit rooms reads (m ∷ ms) = ((room_for rooms m.owner).written
     && (none_like m.owner ms && alone_in m reads)) && writes_fit rooms reads ms
 
 -- the test of a body
-abbrev pub body_fits : Reach → Bool → List Room → Marked → Bool
-body_fits r outer rooms b = all_fit r outer rooms b.reads
-    && (all_fit r outer rooms b.writes && writes_fit rooms b.reads b.writes)
-
--- the test of a nest's bodies
-abbrev pub inners_fit : List Room → List (InnerOf Marked) → Bool
-inners_fit rooms [] = true
-inners_fit rooms (Alone b ∷ ps) = body_fits Nowhere true rooms b && inners_fit rooms ps
-inners_fit rooms (Across c b ∷ ps) = body_fits (reach_of c) true rooms b && inners_fit rooms ps
+abbrev pub body_fits : Bool → List Room → Marked → Bool
+body_fits in_loop rooms b = all_fit in_loop rooms b.reads
+    && (all_fit in_loop rooms b.writes && writes_fit rooms b.reads b.writes)
 
 -- the test of a loop program's bodies: it is run once on each written program; none with a flow
 -- is written so
 abbrev pub steps_fit : List Room → List (StepOf Marked) → Bool
 steps_fit rooms [] = true
-steps_fit rooms (Single b ∷ ss) = body_fits Nowhere false rooms b && steps_fit rooms ss
-steps_fit rooms (Along b ∷ ss) = body_fits Whole false rooms b && steps_fit rooms ss
-steps_fit rooms (Nest ps ∷ ss) = inners_fit rooms ps && steps_fit rooms ss
+steps_fit rooms (Single b ∷ ss) = body_fits false rooms b && steps_fit rooms ss
+steps_fit rooms (Along b ∷ ss) = body_fits true rooms b && steps_fit rooms ss
 steps_fit rooms (Flowed f ∷ ss) = false

@@ -2,12 +2,7 @@
 
 ghost use Rattle.std.specs.Prelude.{◌≡◌, ℕ, Bool, true};
 ghost use Rattle.loop_ir.specs.Spots.{Spot};
-ghost use Rattle.loop_laws.specs.Laws.{LoopsTurn, MadeCompile, MarksAreEnough};
-
-/// A loop gives what its body gives by positions.
-pub fn loops_turn()
-    ensures { LoopsTurn }
-{}
+ghost use Rattle.loop_laws.specs.Laws.{MadeCompile, MarksAreEnough};
 
 /// Code can be made of a program of such a form, whose graphs are such as `Mig` makes.
 pub fn made_compile()

@@ -1,6 +1,6 @@
-//! What is true of loops and of loop programs.
+//! What is true of loop programs.
 #![tactic(auto)]
 
 mod laws;
 
-pub use laws::{loops_turn, made_compile, marks_are_enough};
+pub use laws::{made_compile, marks_are_enough};

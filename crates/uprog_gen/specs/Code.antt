@@ -11,9 +11,7 @@ use Rattle.row_alloc.specs.declared.body.BodyRef.TheVariants as ref
 use Rattle.row_alloc.specs.declared.body.BodyCmd.{BodyCmd}
 use Rattle.row_alloc.specs.declared.body.BodyCmd.TheVariants as cmd
 use Rattle.loop_ir.specs.declared.ir.Sub.{Sub}
-use Rattle.loop_ir.specs.declared.ir.Sub.TheVariants.{Zero, Top, Inner as At_inner, InnerDown}
-use Rattle.loop_ir.specs.declared.ir.Sub.TheVariants.{Outer, OuterDown, Sum, DownSum, DownPlusN}
-use Rattle.loop_ir.specs.declared.ir.Sub.TheVariants.{NPlusInner, Register}
+use Rattle.loop_ir.specs.declared.ir.Sub.TheVariants.{Zero, Inner, InnerDown, Register}
 use Rattle.loop_ir.specs.declared.ir.Space.{Space}
 use Rattle.loop_ir.specs.declared.ir.Space.TheVariants.{Result, Source, ScratchBit, ScratchWord}
 use Rattle.loop_ir.specs.declared.ir.Space.TheVariants.{Cells}
@@ -32,15 +30,8 @@ row_space Cells = row.ScratchBit
 -- the register that a subscript names; 8 stands for the number 0
 abbrev pub register : Sub → ℕ
 register Zero = 8
-register Top = 8
-register At_inner = 8
+register Inner = 8
 register InnerDown = 8
-register Outer = 8
-register OuterDown = 8
-register Sum = 8
-register DownSum = 8
-register DownPlusN = 8
-register NPlusInner = 8
 register (Register r) = if nat_lt r 8 then r else 8
 
 -- a scratch bit has no index, nor has what stands in cells

@@ -32,8 +32,7 @@ fn register(s: Sub) -> u8
 {
     match s {
         Sub::Register(r) => if r < 8 { r } else { 8 },
-        Sub::Zero | Sub::Top | Sub::Inner | Sub::InnerDown | Sub::Outer | Sub::OuterDown => 8,
-        Sub::Sum | Sub::DownSum | Sub::DownPlusN | Sub::NPlusInner => 8,
+        Sub::Zero | Sub::Inner | Sub::InnerDown => 8,
     }
 }
 

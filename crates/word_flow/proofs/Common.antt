@@ -90,7 +90,8 @@ pub use Rattle.word_lower.proofs.Setting.{bit, number}
 pub use Rattle.word_lower.proofs.Statements.{Places, among_arg, among_like, among_target, answer}
 pub use Rattle.word_lower.proofs.Statements.{at_place, by_name, form_filled, held_args}
 pub use Rattle.word_lower.proofs.Statements.{held_numbers, held_width, name_at, named_width}
-pub use Rattle.word_lower.proofs.Statements.{one_place, or_left, or_right, places_of, same_name}
+pub use Rattle.word_lower.proofs.Statements.{one_place, places_of, same_name}
+pub use Rattle.std.proofs.lemmas.Bool.{or_left, or_right}
 pub use Rattle.word_lower.proofs.Statements.{same_slot, statement_rows, written}
 pub use Rattle.word_lower.proofs.Sums.{last_sum, shl1_gives, shr1_gives, top_half, value_below}
 pub use Rattle.word_lower.proofs.Sums.{value_same}

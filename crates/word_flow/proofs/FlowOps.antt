@@ -17,7 +17,7 @@ module _ (A S : Type 0) (block : A → Block) (n : ℕ) (may_have : Spot → Typ
   weigh rs = sum_by (λ (r : RoundOf Block). weight r.part) rs
 
   abbrev pub round_of : A → List ℕ → RoundOf Block
-  round_of b g = record { part = block b; i = 0; o = 0; regs = g }
+  round_of b g = record { part = block b; i = 0; regs = g }
 
   -- what a body does
   pub record Does (b : A) (g : List ℕ) (s : S) (bits : Spots) : Type 0 where

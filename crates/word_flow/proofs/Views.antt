@@ -27,14 +27,14 @@ put_at c a i b o v = cond (same_owner o a && (v == i)) b (c o v)
 -- what places hold, with these registers, and d past the last one
 abbrev reads_of : ℕ → List ℕ → View → Bool → List Mark → ℕ → Bool
 reads_of n g c d [] k = d
-reads_of n g c d (m ∷ ms) zero = c m.owner (sub_value n 0 0 g m.sub)
+reads_of n g c d (m ∷ ms) zero = c m.owner (sub_value n 0 g m.sub)
 reads_of n g c d (m ∷ ms) (suc k) = reads_of n g c d ms k
 
 abbrev writes_of : ℕ → List ℕ → (ℕ → Bool) → List Mark → List Lit → View → View
 writes_of n g env [] ls c = c
 writes_of n g env (m ∷ ms) [] c = c
 writes_of n g env (m ∷ ms) (l ∷ ls) c = writes_of n g env ms ls
-    (put_at c m.owner (sub_value n 0 0 g m.sub) (lit_value env l))
+    (put_at c m.owner (sub_value n 0 g m.sub) (lit_value env l))
 
 -- what stands there after a body
 abbrev pub after_body : ℕ → List ℕ → Bool → Marked → View → View
@@ -70,7 +70,7 @@ all_known os (m ∷ ms) = is_known os m.owner && all_known os ms
 -- each place is one of its owner's rows
 abbrev pub Within : ℕ → List ℕ → List Extent → List Mark → Type 0
 Within n g es [] = Unit {0}
-Within n g es (m ∷ ms) = (sub_value n 0 0 g m.sub < extent n (extent_of es m.owner))
+Within n g es (m ∷ ms) = (sub_value n 0 g m.sub < extent n (extent_of es m.owner))
     × Within n g es ms
 
 -- What a body does to what an operation's state says: the places that it reads and writes are rows
@@ -220,13 +220,13 @@ module _ (n : ℕ) (rooms : List Room) (some : 0 < n) (are : RoomsApart n rooms)
 
   read_like : (c : View) (bits : Spots) (g : List ℕ) (ms : List Mark) → all_there rooms ms ≡ true
       → all_known known ms ≡ true → AllIn n g rooms ms → Like c bits → (k : ℕ)
-      → bits (nth_spot n 0 0 g (map (placed rooms) ms) k)
+      → bits (nth_spot n 0 g (map (placed rooms) ms) k)
       ≡ reads_of n g c (bits (spot_in n Source 0 0)) ms k
   read_like c bits g [] t e a l k = refl
   read_like c bits g (m ∷ ms) t e a l zero = l.held m.owner
       (and_parts (is_known known m.owner) _ e).0
       (there_is rooms m.owner (and_parts (is_there m.owner (length rooms)) _ t).0)
-      (sub_value n 0 0 g m.sub) a.0
+      (sub_value n 0 g m.sub) a.0
   read_like c bits g (m ∷ ms) t e a l (suc k) = read_like c bits g ms
       (and_parts (is_there m.owner (length rooms)) _ t).1
       (and_parts (is_known known m.owner) _ e).1 a.1 l k
@@ -234,13 +234,13 @@ module _ (n : ℕ) (rooms : List Room) (some : 0 < n) (are : RoomsApart n rooms)
   write_like : (g : List ℕ) (x y : ℕ → Bool) → ((j : ℕ) → x j ≡ y j) → (reads ms : List Mark)
       (ls : List Lit) → all_there rooms ms ≡ true → writes_fit rooms reads ms ≡ true
       → AllIn n g rooms ms → (c : View) (bits : Spots) → Like c bits
-      → Like (writes_of n g y ms ls c) (write_all n 0 0 g x (map (placed rooms) ms) ls bits)
+      → Like (writes_of n g y ms ls c) (write_all n 0 g x (map (placed rooms) ms) ls bits)
   write_like g x y h reads [] ls t w a c bits l = l
   write_like g x y h reads (m ∷ ms) [] t w a c bits l = l
   write_like g x y h reads (m ∷ ms) (k ∷ ls) t w a c bits l =
       let p = and_parts (is_there m.owner (length rooms)) _ t in
       let q = and_parts _ (writes_fit rooms reads ms) w in
-      let i = sub_value n 0 0 g m.sub in
+      let i = sub_value n 0 g m.sub in
       write_like g x y h reads ms ls p.1 q.1 a.1 (put_at c m.owner i (lit_value y k))
       (set_spot bits (spot m.owner i) (lit_value x k))
       (put_like c bits m.owner i (lit_value x k) (lit_value y k) (there_is rooms m.owner p.0)
@@ -260,7 +260,7 @@ module _ (n : ℕ) (rooms : List Room) (some : 0 < n) (are : RoomsApart n rooms)
   all_in : (g : List ℕ) (ms : List Mark) → Within n g es ms → AllIn n g rooms ms
   all_in g [] a = tt
   all_in g (m ∷ ms) a = (
-    subst (λ e. sub_value n 0 0 g m.sub < extent n e) (sym (rows_of m.owner)) a.0,
+    subst (λ e. sub_value n 0 g m.sub < extent n e) (sym (rows_of m.owner)) a.0,
     all_in g ms a.1,
   )
 

@@ -7,7 +7,6 @@ use Rattle.loop_ir.specs.declared.ir.Place.{Place}
 use Rattle.loop_ir.specs.Loops.{sub_value}
 use Rattle.loop_ir.specs.Spots.{Spot, spot_in, spot_at, nth_place, nth_spot, IsOwn, is_state}
 use Rattle.loop_ir.specs.WellFormed.{IsOneValue}
-use Rattle.loop_ir.specs.Costs.{used_subs}
 use Rattle.loop_ir.specs.Limits.{HasCommands, IsRound, IsHad, HasValues}
 use Rattle.loop_laws.specs.Rooms.{Room, room_for, Owner, InRoom, InCells, same_owner, Mark, Marked}
 use Rattle.loop_laws.specs.Rooms.{extent, row_in, placed, placed_body, IsOwned, RoomsApart}
@@ -35,12 +34,12 @@ there_at rooms (m ∷ ms) (suc k) e lt = there_at rooms ms k
 -- each place is one of its owner's rows, with these registers
 abbrev pub AllIn : ℕ → List ℕ → List Room → List Mark → Type 0
 AllIn n g rooms [] = Unit {0}
-AllIn n g rooms (m ∷ ms) = (sub_value n 0 0 g m.sub < extent n (room_for rooms m.owner).rows)
+AllIn n g rooms (m ∷ ms) = (sub_value n 0 g m.sub < extent n (room_for rooms m.owner).rows)
     × AllIn n g rooms ms
 
 in_at : (n : ℕ) (g : List ℕ) (rooms : List Room) (ms : List Mark) (k : ℕ) → AllIn n g rooms ms
     → k < length ms
-    → sub_value n 0 0 g (mark_at ms k).sub < extent n (room_for rooms (mark_at ms k).owner).rows
+    → sub_value n 0 g (mark_at ms k).sub < extent n (room_for rooms (mark_at ms k).owner).rows
 in_at n g rooms [] k all lt = absurd (omega arith)
 in_at n g rooms (m ∷ ms) zero all lt = all.0
 in_at n g rooms (m ∷ ms) (suc k) all lt = in_at n g rooms ms k all.1 (omega arith)
@@ -138,13 +137,13 @@ module _ (n : ℕ) (rooms : List Room) (some : 0 < n) (are : RoomsApart n rooms)
 
   -- a round with registers for which all rows are in range
   module _ (g : List ℕ) (reads : AllIn n g rooms b.reads) (writes : AllIn n g rooms b.writes) where
-    spot : (ms : List Mark) (k : ℕ) → k < length ms → nth_spot n 0 0 g (map (placed rooms) ms) k
-        ≡ row_in n (room_for rooms (mark_at ms k).owner) (sub_value n 0 0 g (mark_at ms k).sub)
-    spot ms k lk = ap (spot_at n 0 0 g) (nth_placed rooms ms k lk)
+    spot : (ms : List Mark) (k : ℕ) → k < length ms → nth_spot n 0 g (map (placed rooms) ms) k
+        ≡ row_in n (room_for rooms (mark_at ms k).owner) (sub_value n 0 g (mark_at ms k).sub)
+    spot ms k lk = ap (spot_at n 0 g) (nth_placed rooms ms k lk)
 
     met : (ms : List Mark) → all_there rooms ms ≡ true → AllIn n g rooms ms → (j k : ℕ)
-        → j < length b.writes → k < length ms → nth_spot n 0 0 g (map (placed rooms) b.writes) j
-        ≡ nth_spot n 0 0 g (map (placed rooms) ms) k
+        → j < length b.writes → k < length ms → nth_spot n 0 g (map (placed rooms) b.writes) j
+        ≡ nth_spot n 0 g (map (placed rooms) ms) k
         → (mark_at b.writes j).owner ≡ (mark_at ms k).owner
     met ms t a j k lj lk e = meet n rooms some are rows b owners (mark_at b.writes j).owner
         (mark_at ms k).owner _ _
@@ -155,23 +154,23 @@ module _ (n : ℕ) (rooms : List Room) (some : 0 < n) (are : RoomsApart n rooms)
     owned : (ms : List Mark) → all_there rooms ms ≡ true → AllIn n g rooms ms → (k : ℕ)
         → k < length (map (placed rooms) ms)
         → is_state (nth_place (map (placed rooms) ms) k).space ≡ false
-        → IsOwned n rooms (nth_spot n 0 0 g (map (placed rooms) ms) k)
+        → IsOwned n rooms (nth_spot n 0 g (map (placed rooms) ms) k)
     owned ms t a k lk row = let l = below_map (placed rooms) ms k lk in
-        owned_at n rooms are rows (mark_at ms k).owner (sub_value n 0 0 g (mark_at ms k).sub) _
+        owned_at n rooms are rows (mark_at ms k).owner (sub_value n 0 g (mark_at ms k).sub) _
         (there_at rooms ms k t l)
         (sym (ap (λ (p : Place). is_state p.space) (nth_placed rooms ms k l)) ∙ row)
         (in_at n g rooms ms k a l) (spot ms k l)
 
     space_of : (j : ℕ) → j < length b.writes
-        → IsOwn (nth_spot n 0 0 g (map (placed rooms) b.writes) j).space
+        → IsOwn (nth_spot n 0 g (map (placed rooms) b.writes) j).space
     space_of j lj = let w = room_for rooms (mark_at b.writes j).owner in
         subst (λ (q : Spot). IsOwn q.space) (sym (spot b.writes j lj))
-        (own_spot n w.space w.which (sub_value n 0 0 g (mark_at b.writes j).sub)
+        (own_spot n w.space w.which (sub_value n 0 g (mark_at b.writes j).sub)
         (own_of n rooms are rows (mark_at b.writes j).owner
         (there_at rooms b.writes j owners.writes lj) (may j lj)))
 
     pub round_is : IsRound (IsOwned n rooms) n
-        (record { part = placed_body rooms b; i = 0; o = 0; regs = g })
+        (record { part = placed_body rooms b; i = 0; regs = g })
     round_is = record {
       reads = owned b.reads owners.reads reads;
       writes = owned b.writes owners.writes writes;
@@ -222,7 +221,6 @@ module _ (n : ℕ) (rooms : List Room) (some : 0 < n) (are : RoomsApart n rooms)
       let a2 = and_parts (length d.outs == length d.writes) _ a1.1 in
       let a3 = and_parts (nat_le d.graph.inputs 80) _ a2.1 in
       let a4 = and_parts (nat_le (length d.outs) 8) _ a3.1 in
-      let a5 = and_parts (nat_le (length d.graph.nodes + length d.outs) 32) _ a4.1 in
       let many = most_is (length b.reads) b.graph.inputs kept.inputs in
       record {
         reads = most_is d.graph.inputs (length d.reads) a1.0;
@@ -243,6 +241,5 @@ module _ (n : ℕ) (rooms : List Room) (some : 0 < n) (are : RoomsApart n rooms)
             ∙ sym (ap (λ (p : Place). p.sub) (nth_placed rooms b.reads k (rd k lk)));
         inputs = most_is d.graph.inputs 80 a3.0;
         outputs = most_is (length d.outs) 8 a4.0;
-        rows = most_is (length d.graph.nodes + length d.outs) 32 a5.0;
-        subs = most_is (length (used_subs d)) 3 a5.1;
+        rows = most_is (length d.graph.nodes + length d.outs) 32 a4.1;
       }

@@ -23,7 +23,7 @@ use Rattle.row_alloc.proofs.Literals.{is_literal, is-literal}
 use Rattle.row_alloc.proofs.HeldChecked.{held-does}
 use Rattle.loop_ir.specs.declared.ir.Place.{Place}
 use Rattle.loop_ir.specs.Plain.{StepOf, AllParts}
-use Rattle.loop_ir.specs.Plain.StepOf.{Single, Along, Nest, Flowed}
+use Rattle.loop_ir.specs.Plain.StepOf.{Single, Along, Flowed}
 use Rattle.loop_ir.specs.Spots.{nth_place, is_state}
 use Rattle.loop_ir.specs.Outputs.{AreRows}
 use Rattle.loop_ir.specs.States.{row_count, enters, leaves}
@@ -31,8 +31,7 @@ use Rattle.loop_ir.specs.Costs.{plain_cost}
 use Rattle.loop_ir.specs.Limits.{HasCommands}
 use Rattle.loop_ir.proofs.Outs.{one-rows}
 use Rattle.loop_laws.specs.Rooms.{Room, room_for, Owner, same_owner, Mark, Marked, placed}
-use Rattle.loop_laws.specs.Rooms.{placed_body, placed_steps, RoomsApart, Reach, Nowhere, Whole}
-use Rattle.loop_laws.specs.Rooms.{all_fit, body_fits}
+use Rattle.loop_laws.specs.Rooms.{placed_body, placed_steps, RoomsApart, all_fit, body_fits}
 use Rattle.loop_laws.specs.Rooms.{steps_fit}
 use Rattle.loop_laws.specs.Forms.{IsMade}
 use Rattle.loop_laws.proofs.Fitting.{mark_at}
@@ -352,46 +351,44 @@ pub has_commands : (n : ℕ) (rooms : List Room) → 0 < n → RoomsApart n room
 has_commands n rooms some are rows b fit works =
     commands_are n rooms some are rows b (kept_fit rooms b fit) works
 
--- the commands of a loop program's bodies do them: none with a nest or a flow is tested so
+-- the commands of a loop program's bodies do them: none with a flow is tested so
 abbrev pub steps_do : List (StepOf Marked) → Bool
 steps_do [] = true
 steps_do (Single b ∷ ss) = does_body b && steps_do ss
 steps_do (Along b ∷ ss) = does_body b && steps_do ss
-steps_do (Nest ps ∷ ss) = false
 steps_do (Flowed f ∷ ss) = false
 
-there_is : (r : Reach) (outer : Bool) (rooms : List Room) (ms : List Mark)
-    → all_fit r outer rooms ms ≡ true → all_there rooms ms ≡ true
-there_is r outer rooms [] e = refl
-there_is r outer rooms (m ∷ ms) e = and_from _ _ (grind arith)
-    (there_is r outer rooms ms (grind arith))
+there_is : (in_loop : Bool) (rooms : List Room) (ms : List Mark) → all_fit in_loop rooms ms ≡ true
+    → all_there rooms ms ≡ true
+there_is in_loop rooms [] e = refl
+there_is in_loop rooms (m ∷ ms) e = and_from _ _ (grind arith)
+    (there_is in_loop rooms ms (grind arith))
 
-owners_fit : (r : Reach) (outer : Bool) (rooms : List Room) (b : Marked)
-    → body_fits r outer rooms b ≡ true → OwnersFit rooms b
-owners_fit r outer rooms b e = record {
-  reads = there_is r outer rooms b.reads (grind arith);
-  writes = there_is r outer rooms b.writes (grind arith);
+owners_fit : (in_loop : Bool) (rooms : List Room) (b : Marked) → body_fits in_loop rooms b ≡ true
+    → OwnersFit rooms b
+owners_fit in_loop rooms b e = record {
+  reads = there_is in_loop rooms b.reads (grind arith);
+  writes = there_is in_loop rooms b.writes (grind arith);
   fit = grind arith;
 }
 
 -- the tests of owners and of commands are enough for a loop program's commands
 module _ (n : ℕ) (rooms : List Room) (some : 0 < n) (are : RoomsApart n rooms)
     (rows : HaveRows rooms) where
-  body_has : (r : Reach) (outer : Bool) (b : Marked) → body_fits r outer rooms b ≡ true
+  body_has : (in_loop : Bool) (b : Marked) → body_fits in_loop rooms b ≡ true
       → does_body b ≡ true → HasCommands (placed_body rooms b)
-  body_has r outer b e h = commands_are n rooms some are rows b (owners_fit r outer rooms b e)
+  body_has in_loop b e h = commands_are n rooms some are rows b (owners_fit in_loop rooms b e)
       (works_is b h)
 
   pub steps_have : (ss : List (StepOf Marked)) → steps_fit rooms ss ≡ true → steps_do ss ≡ true
       → AllParts HasCommands (placed_steps rooms ss)
   steps_have [] e h = tt
   steps_have (Single b ∷ ss) e h =
-      let x = and_parts (body_fits Nowhere false rooms b) _ e in
+      let x = and_parts (body_fits false rooms b) _ e in
       let y = and_parts (does_body b) _ h in
-      (body_has Nowhere false b x.0 y.0, steps_have ss x.1 y.1)
+      (body_has false b x.0 y.0, steps_have ss x.1 y.1)
   steps_have (Along b ∷ ss) e h =
-      let x = and_parts (body_fits Whole false rooms b) _ e in
+      let x = and_parts (body_fits true rooms b) _ e in
       let y = and_parts (does_body b) _ h in
-      (body_has Whole false b x.0 y.0, steps_have ss x.1 y.1)
-  steps_have (Nest ps ∷ ss) e h = absurd cc
+      (body_has true b x.0 y.0, steps_have ss x.1 y.1)
   steps_have (Flowed f ∷ ss) e h = absurd cc

@@ -40,7 +40,7 @@ module _ (o : WordOp) (n k : ℕ) (m : Slots) (are : AreSlots n k k 0 m) (before
     (F : Bool → Bool → Bool → Bool)
     (e : (a b : ℕ → Bool) (s : Bool) → number (λ i. F (a i) (b i) s) k
     ≡ operation o k (number a k) (number b k) (number (λ i. s) 1)) where
-  on_words : (b : Block) → k ≡ n → ((i : ℕ) (s : Spots) → after_round n (round_at b i 0) s
+  on_words : (b : Block) → k ≡ n → ((i : ℕ) (s : Spots) → after_round n (round_at b i) s
       ≡ set_spot s (row n m.target i) (F (s (row n m.a i)) (s (row n m.b i)) (s (row n m.s 0))))
       → Gives o n k k 0 m before (after_rounds n (all_rounds n (Along b ∷ [])) before)
   on_words = at_each o n k 0 m are before before (λ q f. refl) (row n m.s 0)
@@ -70,7 +70,7 @@ no_more a b = let e : a + bit false ≡ a = omega arith in ap (nat_lt b) e
 abbrev Compares : ℕ → Slots → Block → Spot → Type 0
 Compares n m b p = (i : ℕ) (s : Spots) → (let q = row n (cells 0) 0 in
     let g = over (s (row n m.a i)) (s (row n m.b i)) (s q) in
-    after_round n (round_at b i 0) s ≡ set_spot (set_spot s p g) q g)
+    after_round n (round_at b i) s ≡ set_spot (set_spot s p g) q g)
 
 module _ (n k bits : ℕ) (m : Slots) (are : AreSlots n k n bits m) (before : Spots) (some : 0 < n)
     (b : Block) (p : Spot) (ne : p ≡ row n (cells 0) 0 → ⊥) (free : IsFree n k bits m p) (x : Bool)
@@ -106,7 +106,7 @@ bit_gives o n m are before s v kept e g =
 choice_does : (o : WordOp) (n : ℕ) → 0 < n → (m : Slots) (are : AreSlots n n n 1 m) (before : Spots)
     (b c : Block) (F : Bool → Bool → Bool → Bool)
     → Compares n m b (row n (scratch_bit m.free_bit) 0)
-    → ((i : ℕ) (s : Spots) → after_round n (round_at c i 0) s
+    → ((i : ℕ) (s : Spots) → after_round n (round_at c i) s
     ≡ set_spot s (row n m.target i) (F (s (row n m.a i)) (s (row n m.b i))
     (s (row n (scratch_bit m.free_bit) 0))))
     → ((g : Bool) → g ≡ nat_lt (number_at n before m.b n) (number_at n before m.a n)

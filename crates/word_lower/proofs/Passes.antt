@@ -5,7 +5,7 @@ use Rattle.std.proofs.lemmas.Bool.{cases_eq}
 use Rattle.op_text.specs.declared.word_ops.WordOp.{WordOp}
 use Rattle.loop_ir.specs.Plain.{Block, StepOf}
 use Rattle.loop_ir.specs.Plain.StepOf.{Along}
-use Rattle.loop_ir.specs.Loops.{round_at, one_round, rounds, all_rounds}
+use Rattle.loop_ir.specs.Loops.{round_at, rounds, all_rounds}
 use Rattle.loop_ir.specs.Spots.{Spot, Spots, set_spot, after_round, after_rounds, is_state}
 use Rattle.loop_laws.proofs.Same.{set_same, set_other}
 use Rattle.word_lower.specs.Places.{scratch_bit, cells}
@@ -14,13 +14,13 @@ use Rattle.word_lower.proofs.Setting.{IsElsewhere, Gives}
 use Rattle.word_lower.proofs.Sums.{value_same}
 
 module _ (n : ℕ) (b : Block) (ss : List (StepOf Block)) (I : ℕ → Spots → Type 0)
-    (step : (i : ℕ) → i < n → (s : Spots) → I i s → I (suc i) (after_round n (round_at b i 0) s))
+    (step : (i : ℕ) → i < n → (s : Spots) → I i s → I (suc i) (after_round n (round_at b i) s))
     (P : Spots → Type 0) (end : (s : Spots) → I n s → P (after_rounds n (all_rounds n ss) s)) where
   rest : (i count : ℕ) → i + count ≡ n → (s : Spots) → I i s
-      → P (after_rounds n (rounds (λ j. one_round b j 0) i count ++ all_rounds n ss) s)
+      → P (after_rounds n (rounds b i count ++ all_rounds n ss) s)
   rest i zero e s h = let f : i ≡ n = omega arith in end s (subst (λ x. I x s) f h)
   rest i (suc count) e s h =
-      let new = after_round n (round_at b i 0) s in
+      let new = after_round n (round_at b i) s in
       let f : suc i ≡ i + 1 = omega arith in
       rest (i + 1) count (omega arith) new
       (subst (λ x. I x new) f (step i (omega arith) s h))
@@ -113,7 +113,7 @@ module _ (o : WordOp) (n k bits : ℕ) (m : Slots) (are : AreSlots n k k bits m)
       done n k k bits m are o all before (after 0 start) h.0 h.1 e
 
   pub at_each : (b : Block) → k ≡ n
-      → ((i : ℕ) (s : Spots) → after_round n (round_at b i 0) s ≡ after i s)
+      → ((i : ℕ) (s : Spots) → after_round n (round_at b i) s ≡ after i s)
       → Gives o n k k bits m before (after_rounds n (all_rounds n (Along b ∷ [])) start)
   at_each b full round = each n b [] Keeps
       (λ i lt s h. subst (Keeps (suc i)) (sym (round i s)) (next i (omega arith) s h))
@@ -125,7 +125,7 @@ module _ (o : WordOp) (n bits : ℕ) (m : Slots) (are : AreSlots n n n bits m) (
     (b : Block) (p : Spot) (free : IsFree n n bits m p)
     (apart : (v : ℕ) → v < n → row n m.target v ≡ p → ⊥) (x : Bool)
     (Y C : Bool → Bool → Bool → Bool)
-    (round : (i : ℕ) (s : Spots) → after_round n (round_at b i 0) s
+    (round : (i : ℕ) (s : Spots) → after_round n (round_at b i) s
     ≡ set_spot (set_spot s (row n m.target i) (Y (s (row n m.a i)) (s (row n m.b i)) (s p))) p
     (C (s (row n m.a i)) (s (row n m.b i)) (s p))) where
   -- the state before a position
@@ -140,7 +140,7 @@ module _ (o : WordOp) (n bits : ℕ) (m : Slots) (are : AreSlots n n n bits m) (
   Holds i s = IsKept n n bits m before s × Has n m digit i s × (s p ≡ carry i)
 
   on : (i : ℕ) → i < n → (s : Spots) → Holds i s
-      → Holds (suc i) (after_round n (round_at b i 0) s)
+      → Holds (suc i) (after_round n (round_at b i) s)
   on i lt s h =
       let fa = h.0 _ (are.a i lt) in
       let fb = h.0 _ (are.b i lt) in
@@ -175,7 +175,7 @@ module _ (o : WordOp) (n bits : ℕ) (m : Slots) (are : AreSlots n n n bits m) (
 module _ (n k bits : ℕ) (m : Slots) (are : AreSlots n k n bits m) (before : Spots) (b : Block)
     (p q : Spot) (ne : p ≡ q → ⊥) (pf : IsFree n k bits m p) (qf : IsFree n k bits m q)
     (G H : Bool → Bool → Bool → Bool → Bool)
-    (round : (i : ℕ) (s : Spots) → after_round n (round_at b i 0) s
+    (round : (i : ℕ) (s : Spots) → after_round n (round_at b i) s
     ≡ set_spot (set_spot s p (G (s (row n m.a i)) (s (row n m.b i)) (s p) (s q))) q
     (H (s (row n m.a i)) (s (row n m.b i)) (s p) (s q))) (start : Spots) where
   abbrev pub states : ℕ → Bool × Bool
@@ -194,7 +194,7 @@ module _ (n k bits : ℕ) (m : Slots) (are : AreSlots n k n bits m) (before : Sp
   abbrev Are : ℕ → Spots → Type 0
   Are i s = IsKept n k bits m before s × (s p ≡ (states i).0) × (s q ≡ (states i).1)
 
-  go : (i : ℕ) → i < n → (s : Spots) → Are i s → Are (suc i) (after_round n (round_at b i 0) s)
+  go : (i : ℕ) → i < n → (s : Spots) → Are i s → Are (suc i) (after_round n (round_at b i) s)
   go i lt s h =
       let fa = h.0 _ (are.a i lt) in
       let fb = h.0 _ (are.b i lt) in

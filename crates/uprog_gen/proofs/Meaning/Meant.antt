@@ -32,7 +32,7 @@ use Rattle.uprog_code.specs.Implements.{Implements}
 use Rattle.loop_ir.specs.declared.ir.Space.TheVariants.{Result, Source}
 use Rattle.loop_ir.specs.declared.names.Slot.{Slot}
 use Rattle.loop_ir.specs.Plain.{StepOf, Block}
-use Rattle.loop_ir.specs.Plain.StepOf.{Single, Along, Nest, Flowed}
+use Rattle.loop_ir.specs.Plain.StepOf.{Single, Along, Flowed}
 use Rattle.loop_laws.proofs.EveryRound.{rounds_among}
 use Rattle.uprog_gen.proofs.Coding.FlowMaps.{flow_among}
 use Rattle.loop_ir.specs.Loops.{all_rounds}
@@ -115,7 +115,6 @@ module _ (P Q : ℕ → Spot → Type 0) (f : (n : ℕ) (q : Spot) → P n q →
   steps_more [] h = tt
   steps_more (Single b ∷ ss) h = (tt, steps_more ss h.1)
   steps_more (Along b ∷ ss) h = (tt, steps_more ss h.1)
-  steps_more (Nest ps ∷ ss) h = (tt, steps_more ss h.1)
   steps_more (Flowed x ∷ ss) h =
       (flow_among Block (HasValues P) (HasValues Q) values_more x h.0, steps_more ss h.1)
 

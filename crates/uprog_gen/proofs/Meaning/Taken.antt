@@ -19,17 +19,15 @@ use Rattle.uprog_code.specs.declared.code.EntryCode.{EntryCode}
 use Rattle.uprog_code.specs.Shape.{Microprogram, microprogram_of}
 use Rattle.loop_ir.specs.declared.ir.Flow.{Flow}
 use Rattle.loop_ir.specs.declared.ir.Move.{Move}
-use Rattle.loop_ir.specs.declared.ir.Count.TheVariants.{All}
 use Rattle.loop_ir.specs.Plain.{StepOf, Block, flow_of}
 use Rattle.loop_ir.specs.Plain.StepOf.{Along}
 use Rattle.loop_ir.specs.Flows.{FlowOf}
 use Rattle.loop_ir.specs.Flows.FlowOf.{End, Do, Loop}
 use Rattle.loop_ir.specs.Flows.TurnsOf.{Last}
-use Rattle.loop_ir.specs.Costs.{used_subs}
 use Rattle.loop_ir.specs.Loops.{all_rounds}
 use Rattle.loop_ir.specs.Statements.{Slots}
-use Rattle.loop_front.specs.Front.{in_registers, before, after, each_sub, put_all, counter, starts}
-use Rattle.loop_front.specs.Front.{round_flow, once_flow, each_flow, followed, clears, front}
+use Rattle.loop_front.specs.Front.{used_subs, in_registers, before, after, each_sub, put_all}
+use Rattle.loop_front.specs.Front.{starts, round_flow, each_flow, followed, clears, front}
 use Rattle.block_lower.specs.Form.{IsBlockProgram, start, constant, place_of, home}
 use Rattle.block_lower.specs.Held.{each_last, held_start, held_body, held_last}
 use Rattle.uprog_gen.specs.Does.{IsCheap, AreCheap}
@@ -51,17 +49,10 @@ put_graph : (ms : List Move) (k : FlowOf Block) → flow_graph (put_all ms k) �
 put_graph [] k = refl
 put_graph (m ∷ ms) k = put_graph ms k
 
-once_graph : (b : Block) (k : FlowOf Block)
-    → flow_graph (once_flow b k) ≡ later (body_graph b ∷ []) (flow_graph k)
-once_graph b k = put_graph (starts b) (round_flow b k)
-    ∙ put_graph (each_sub before (used_subs b) 3) (Do (in_registers b) k)
-
-each_graph : (b : Block) → flow_graph (each_flow All b End) ≡ body_graph b ∷ []
+each_graph : (b : Block) → flow_graph (each_flow b End) ≡ body_graph b ∷ []
 each_graph b =
     let more = each_sub after (used_subs b) 3 in
-    let turn = round_flow b (put_all more End) in
-    put_graph (counter All) (put_all (starts b) (Loop 2 (Last turn) End))
-    ∙ put_graph (starts b) (Loop 2 (Last turn) End)
+    put_graph (starts b) (Loop 2 (Last (round_flow b (put_all more End))) End)
     ∙ ap (λ l. later l []) (put_graph (each_sub before (used_subs b) 3)
     (Do (in_registers b) (put_all more End))) ∙ ap (later (body_graph b ∷ [])) (put_graph more End)
 
@@ -95,8 +86,7 @@ started_graph : (slots : Slots) (down : Bool) (ss : List State) (body : Block)
 started_graph slots down [] body = each_graph body
 started_graph slots down (s ∷ ss) body =
     let first = constant s.start (place_of down (slots s.name)) in
-    once_graph first (front (map (start slots down) ss ++ Along body ∷ []))
-    ∙ ap (later (body_graph first ∷ [])) (started_graph slots down ss body)
+    ap (later (body_graph first ∷ [])) (started_graph slots down ss body)
 
 form_graph : (slots : Slots) (b : Serial) (q : List (StepOf Block)) (f : IsBlockProgram slots b q)
     → flow_graph (front q) ≡ the_graph slots b q f ∷ []

@@ -61,12 +61,12 @@ find f q (suc count) =
     (find f q count)
 
 -- a state is no row
-no_row : (n i o : ℕ) (regs : List ℕ) (q : Place) → is_state q.space ≡ true → (head : Shape) (p : Spot)
-    → IsSpot head n p → p ≡ spot_at n i o regs q → ⊥
-no_row n i o regs q e head p spot same = by q.space e (subst (IsSpot head n) same spot)
+no_row : (n i : ℕ) (regs : List ℕ) (q : Place) → is_state q.space ≡ true → (head : Shape) (p : Spot)
+    → IsSpot head n p → p ≡ spot_at n i regs q → ⊥
+no_row n i regs q e head p spot same = by q.space e (subst (IsSpot head n) same spot)
   where
     by : (x : Space) → is_state x ≡ true → IsSpot head n
-        (spot_in n x q.which (sub_value n i o regs q.sub)) → ⊥
+        (spot_in n x q.which (sub_value n i regs q.sub)) → ⊥
     by Cells e h = h
     by x e h = absurd (cc)
 
@@ -84,16 +84,16 @@ module _ (rows : ℕ) (head : Shape) (n : ℕ) (b : Bound) where
 
   input_row : (r : RoundOf Block) (k : ℕ) → is_state (nth_place r.part.reads k).space ≡ false
       → (round_rows rows head n b r).input k
-      ≡ spot_row head n b (nth_spot n r.i r.o r.regs r.part.reads k)
+      ≡ spot_row head n b (nth_spot n r.i r.regs r.part.reads k)
   input_row r k e = ap (λ c. cond c (rows + 32)
-      (spot_row head n b (nth_spot n r.i r.o r.regs r.part.reads k))) e
+      (spot_row head n b (nth_spot n r.i r.regs r.part.reads k))) e
 
   ref_place : (r : RoundOf Block) (x : BodyRef) → IsNamed r.part x
       → address rows head n b (round_ref n r x) ≡ place (round_rows rows head n b r) x
   ref_place r (ref.In k) h = let p = nth_place r.part.reads k in
-      space_is p.space p.which (sub_value n r.i r.o r.regs p.sub) h.1 ∙ ap AddrD (sym (input_row r k h.1))
+      space_is p.space p.which (sub_value n r.i r.regs p.sub) h.1 ∙ ap AddrD (sym (input_row r k h.1))
   ref_place r (ref.Out k) h = let p = nth_place r.part.writes k in
-      space_is p.space p.which (sub_value n r.i r.o r.regs p.sub) h.1
+      space_is p.space p.which (sub_value n r.i r.regs p.sub) h.1
   ref_place r x h = refl
 
   module _ (r : RoundOf Block) (small : IsSmall r.part) where
@@ -159,7 +159,7 @@ module _ (rows : ℕ) (head : Shape) (n : ℕ) (b : Bound) (laid : IsLaid rows h
 
   own_row : (r : RoundOf Block) → IsRound (IsSpot head n) n r → IsSmall r.part
       → (j : ℕ) → j < length (outs_of r.part)
-      → IsSpot head n (nth_spot n r.i r.o r.regs r.part.writes j)
+      → IsSpot head n (nth_spot n r.i r.regs r.part.writes j)
   own_row r is small j lj = let l = few r.part small j lj in
       is.writes j l.1 (small.states.first.row j l.0)
 
@@ -168,7 +168,7 @@ module _ (rows : ℕ) (head : Shape) (n : ℕ) (b : Bound) (laid : IsLaid rows h
       → (j k : ℕ) → j < length (outs_of r.part) → k < r.part.graph.inputs → (c : Bool)
       → is_state (nth_place r.part.reads k).space ≡ c
       → (round_rows rows head n b r).output j
-      ≡ cond c (rows + 32) (spot_row head n b (nth_spot n r.i r.o r.regs r.part.reads k))
+      ≡ cond c (rows + 32) (spot_row head n b (nth_spot n r.i r.regs r.part.reads k))
       → (out_at (outs_of r.part) j).same ≡ Some k
   same_row r is small j k lj lk true st e =
       absurd (omega (arith, e, laid.low _ (own_row r is small j lj)))
@@ -180,7 +180,7 @@ module _ (rows : ℕ) (head : Shape) (n : ℕ) (b : Bound) (laid : IsLaid rows h
       lr : k < length r.part.reads
       lr = omega (arith, lk, small.well.reads)
 
-      spots : nth_spot n r.i r.o r.regs r.part.writes j ≡ nth_spot n r.i r.o r.regs r.part.reads k
+      spots : nth_spot n r.i r.regs r.part.writes j ≡ nth_spot n r.i r.regs r.part.reads k
       spots = laid.own _ _ (own_row r is small j lj) (is.reads k lr st) (is.own j lw) e
 
       decide : (o : Option ℕ) → (out_at (outs_of r.part) j).same ≡ o
@@ -190,13 +190,13 @@ module _ (rows : ℕ) (head : Shape) (n : ℕ) (b : Bound) (laid : IsLaid rows h
       decide (Some l) h =
           let f = (own_outs r.part small).found j l lj h in
           let ll : l < length r.part.reads = omega (arith, f.0, small.well.reads) in
-          let e : l ≡ k = is.once j l k lw ll lr (ap (spot_at n r.i r.o r.regs) (sym f.1)) spots in
+          let e : l ≡ k = is.once j l k lw ll lr (ap (spot_at n r.i r.regs) (sym f.1)) spots in
           h ∙ ap Some e
 
   away : (r : RoundOf Block) (i k : ℕ) → i < 32 → IsRound (IsSpot head n) n r
       → k < length r.part.reads → (c : Bool)
       → is_state (nth_place r.part.reads k).space ≡ c → rows - 32 + i
-      ≡ cond c (rows + 32) (spot_row head n b (nth_spot n r.i r.o r.regs r.part.reads k)) → ⊥
+      ≡ cond c (rows + 32) (spot_row head n b (nth_spot n r.i r.regs r.part.reads k)) → ⊥
   away r i k li is lk true st e = omega (arith, e)
   away r i k li is lk false st e = omega (arith, e, laid.low _ (is.reads k lk st))
 
@@ -222,7 +222,7 @@ module _ (rows : ℕ) (head : Shape) (n : ℕ) (b : Bound) (laid : IsLaid rows h
       λ h. let f = ((own_outs r.part small).found j k lj h).1 in
           let st = ap (λ (p : Place). is_state p.space) f
           ∙ small.states.first.row j (few r.part small j lj).0 in
-          ap (λ p. spot_row head n b (spot_at n r.i r.o r.regs p)) (sym f)
+          ap (λ p. spot_row head n b (spot_at n r.i r.regs p)) (sym f)
           ∙ sym (input_row rows head n b r k st),
     );
   }
@@ -231,7 +231,7 @@ module _ (rows : ℕ) (head : Shape) (n : ℕ) (b : Bound) (laid : IsLaid rows h
   entering : (r : RoundOf Block) (alive : List ℕ) (bits : Spots) (s : Column)
       → IsRound (IsSpot head n) n r → IsSmall r.part
       → finds alive r.part ≡ true → AgreeHeld alive bits s → Enters r.part.graph
-      (λ k. bits (nth_spot n r.i r.o r.regs r.part.reads k)) (enters 0 r.part.reads)
+      (λ k. bits (nth_spot n r.i r.regs r.part.reads k)) (enters 0 r.part.reads)
       (round_rows rows head n b r) s
   entering r alive bits s is small live agree = record {
     read = λ k l h.
@@ -240,24 +240,24 @@ module _ (rows : ℕ) (head : Shape) (n : ℕ) (b : Bound) (laid : IsLaid rows h
         let st = held_is r.part.reads 0 k lk
         ∙ ap (is_held (enters 0 r.part.reads)) z ∙ h in
         ap (λ q. s (D q)) (input_row rows head n b r k st) ∙ agree.named _ (is.reads k lk st);
-    held = enter_cells r.part.graph (λ k. bits (nth_spot n r.i r.o r.regs r.part.reads k)) s
-        n r.i r.o r.regs bits r.part.reads 0
+    held = enter_cells r.part.graph (λ k. bits (nth_spot n r.i r.regs r.part.reads k)) s
+        n r.i r.regs bits r.part.reads 0
         (λ j l e. let m : j < r.part.graph.inputs = small.states.read j l e in
         omega (arith, m))
         (λ j l. let z : 0 + j ≡ j = omega arith in
-        ap (λ k. bits (nth_spot n r.i r.o r.regs r.part.reads k)) z)
+        ap (λ k. bits (nth_spot n r.i r.regs r.part.reads k)) z)
         (are_among (λ w. StandsIn s w (bits (state_spot w))) alive
         (states_in r.part.reads) live agree.cells);
   }
 
   written : (r : RoundOf Block) (bits : Spots) → IsRound (IsSpot head n) n r
       → IsSmall r.part → (j : ℕ) → j < length r.part.outs
-      → after_round n r bits (nth_spot n r.i r.o r.regs r.part.writes j)
-      ≡ value r.part.graph (λ k. bits (nth_spot n r.i r.o r.regs r.part.reads k))
+      → after_round n r bits (nth_spot n r.i r.regs r.part.writes j)
+      ≡ value r.part.graph (λ k. bits (nth_spot n r.i r.regs r.part.reads k))
       (lit_at r.part.outs j)
   written r bits is small j lo =
       let k = r.part in
-      write_at n r.i r.o r.regs (round_env n r bits) k.writes k.outs bits
+      write_at n r.i r.regs (round_env n r bits) k.writes k.outs bits
       small.well.writes (λ i m li lm e. is.apart i m (omega (arith, li, small.well.writes))
       (omega (arith, lm, small.well.writes)) e) j lo
 
@@ -273,7 +273,7 @@ module _ (rows : ℕ) (head : Shape) (n : ℕ) (b : Bound) (laid : IsLaid rows h
       let j = h.0 in
       let lw : j < length k.writes = (few r.part small j h.1).1 in
       let lo : j < length k.outs = omega (arith, lw, small.states.written) in
-      let same : nth_spot n r.i r.o r.regs k.writes j ≡ p =
+      let same : nth_spot n r.i r.regs k.writes j ≡ p =
       laid.own _ p (own_row r is small j h.1) spot (is.own j lw) (sym h.2) in
       ap (λ q. s' (D q)) h.2
       ∙ (commands_do k small).values w s at (are_apart r is small)
@@ -286,7 +286,7 @@ module _ (rows : ℕ) (head : Shape) (n : ℕ) (b : Bound) (laid : IsLaid rows h
       (λ j lt e. none j lt (sym e))
       (λ i li e. absurd (omega (arith, e, laid.low p spot)))
       ∙ agree.named p spot
-      ∙ sym (write_other n r.i r.o r.regs (round_env n r bits) k.writes k.outs bits p
+      ∙ sym (write_other n r.i r.regs (round_env n r bits) k.writes k.outs bits p
       (λ j lt e. other none j (omega (arith, lt, small.states.written)) e)))
       (find w.output (spot_row head n b p) (length (outs_of r.part)))
     where
@@ -294,7 +294,7 @@ module _ (rows : ℕ) (head : Shape) (n : ℕ) (b : Bound) (laid : IsLaid rows h
       k = r.part
 
       at : ℕ → Bool
-      at = λ i. bits (nth_spot n r.i r.o r.regs k.reads i)
+      at = λ i. bits (nth_spot n r.i r.regs k.reads i)
 
       w : Rows
       w = round_rows rows head n b r
@@ -303,11 +303,11 @@ module _ (rows : ℕ) (head : Shape) (n : ℕ) (b : Bound) (laid : IsLaid rows h
       s' = run_body w r.part.found s
 
       other : ((j : ℕ) → j < length (outs_of r.part) → spot_row head n b p ≡ w.output j → ⊥) → (j : ℕ)
-          → j < length k.writes → p ≡ nth_spot n r.i r.o r.regs k.writes j → ⊥
+          → j < length k.writes → p ≡ nth_spot n r.i r.regs k.writes j → ⊥
       other none j lt e = ⊎_elim
           (λ (l : j < row_count k.writes). none j (omega (arith, l, (own_outs r.part small).size))
           (ap (spot_row head n b) e))
-          (λ (l : row_count k.writes ≤ j). no_row n r.i r.o r.regs (nth_place k.writes j)
+          (λ (l : row_count k.writes ≤ j). no_row n r.i r.regs (nth_place k.writes j)
           (small.states.first.state j l lt) head p spot e)
           (cases_lt j (row_count k.writes))
 
@@ -319,9 +319,9 @@ module _ (rows : ℕ) (head : Shape) (n : ℕ) (b : Bound) (laid : IsLaid rows h
   round_agrees r alive bits s is small live agree = record {
     named = round_rows_agree r alive bits s is small live agree;
     cells =
-        let f = λ (k : ℕ). bits (nth_spot n r.i r.o r.regs r.part.reads k) in
+        let f = λ (k : ℕ). bits (nth_spot n r.i r.regs r.part.reads k) in
         let w = round_rows rows head n b r in
-        leave_cells r.part.graph f (run_body w r.part.found s) n r.i r.o r.regs
+        leave_cells r.part.graph f (run_body w r.part.found s) n r.i r.regs
         (after_round n r bits) r.part.writes r.part.outs
         small.states.written (λ j l. written r bits is small j l)
         ((commands_do r.part small).leaves w s f (are_apart r is small)
@@ -335,7 +335,7 @@ module _ (rows : ℕ) (head : Shape) (n : ℕ) (b : Bound) (laid : IsLaid rows h
   round_keeps r s is small q other =
       (commands_do r.part small).others (round_rows rows head n b r) s (are_apart r is small) q
       (λ j lt e. other (inl (
-        nth_spot n r.i r.o r.regs r.part.writes j,
+        nth_spot n r.i r.regs r.part.writes j,
         own_row r is small j lt,
         is.own j (few r.part small j lt).1,
         sym e,

@@ -14,19 +14,19 @@ use Rattle.uprog_gen.specs.Code.{row_space}
 use Rattle.loop_ir.specs.Plain.{Block}
 
 -- a place's row, in a command of the trace
-abbrev pub place_row : ℕ → ℕ → ℕ → List ℕ → Place → RowRef
-place_row n i o g p = record {
+abbrev pub place_row : ℕ → ℕ → List ℕ → Place → RowRef
+place_row n i g p = record {
   space = row_space p.space;
   which = p.which;
-  index = position (row_space p.space) (sub_value n i o g p.sub);
+  index = position (row_space p.space) (sub_value n i g p.sub);
 }
 
 -- a body's row in a round, in a command of the trace
 abbrev pub round_ref : ℕ → RoundOf Block → BodyRef → RowRef
 round_ref n r (ref.B k) = record { space = row.B; which = k; index = 0 }
 round_ref n r (ref.C k) = record { space = row.C; which = k; index = 0 }
-round_ref n r (ref.In k) = place_row n r.i r.o r.regs (nth_place r.part.reads k)
-round_ref n r (ref.Out k) = place_row n r.i r.o r.regs (nth_place r.part.writes k)
+round_ref n r (ref.In k) = place_row n r.i r.regs (nth_place r.part.reads k)
+round_ref n r (ref.Out k) = place_row n r.i r.regs (nth_place r.part.writes k)
 round_ref n r (ref.Spill k) = record { space = row.Spill; which = k; index = 0 }
 
 -- a body's command in a round, as a command of the trace

@@ -39,11 +39,11 @@ module _ (n : ℕ) where
       rw (sum_like (count_by is_aap) rs ss l, sum_like (count_by is_ap) rs ss l) refl
 
   spot_like : (r s : RoundOf Block) (p q : Place) → IsSameRow n r s p q
-      → spot_at n s.i s.o s.regs q ≡ spot_at n r.i r.o r.regs p
+      → spot_at n s.i s.regs q ≡ spot_at n r.i r.regs p
   spot_like r s p q h = rw (h.space, h.which, h.index) refl
 
   nth_like : (r s : RoundOf Block) (ps qs : List Place) → AreSameRows n r s ps qs → (k : ℕ)
-      → nth_spot n s.i s.o s.regs qs k ≡ nth_spot n r.i r.o r.regs ps k
+      → nth_spot n s.i s.regs qs k ≡ nth_spot n r.i r.regs ps k
   nth_like r s [] [] h k = refl
   nth_like r s (p ∷ ps) (q ∷ qs) h zero = spot_like r s p q h.0
   nth_like r s (p ∷ ps) (q ∷ qs) h (suc k) = nth_like r s ps qs h.1 k
@@ -51,25 +51,25 @@ module _ (n : ℕ) where
 
   write_like : (r s : RoundOf Block) (env : ℕ → Bool) (ps qs : List Place)
       → AreSameRows n r s ps qs → (ls : List Lit) (bits : Spots)
-      → write_all n s.i s.o s.regs env qs ls bits ≡ write_all n r.i r.o r.regs env ps ls bits
+      → write_all n s.i s.regs env qs ls bits ≡ write_all n r.i r.regs env ps ls bits
   write_like r s env [] [] h ls bits = refl
   write_like r s env (p ∷ ps) (q ∷ qs) h [] bits = refl
   write_like r s env (p ∷ ps) (q ∷ qs) h (l ∷ ls) bits =
-      ap (λ x. write_all n s.i s.o s.regs env qs ls (set_spot bits x (lit_value env l)))
+      ap (λ x. write_all n s.i s.regs env qs ls (set_spot bits x (lit_value env l)))
       (spot_like r s p q h.0)
       ∙ write_like r s env ps qs h.1 ls
-      (set_spot bits (spot_at n r.i r.o r.regs p) (lit_value env l))
+      (set_spot bits (spot_at n r.i r.regs p) (lit_value env l))
   write_like r s env ps qs h ls bits = absurd h
 
   round_like : (r s : RoundOf Block) → IsLike n r s → (bits : Spots)
       → after_round n s bits ≡ after_round n r bits
   round_like r s l bits =
-      let at = λ (k : ℕ). bits (nth_spot n s.i s.o s.regs s.part.reads k) in
+      let at = λ (k : ℕ). bits (nth_spot n s.i s.regs s.part.reads k) in
       let env : round_env n s bits ≡ round_env n r bits = ap (λ g. values g at) l.graph
       ∙ ap (values r.part.graph)
       (fun_ext (λ k. ap bits (nth_like r s r.part.reads s.part.reads l.reads k))) in
-      ap (λ e. write_all n s.i s.o s.regs e s.part.writes s.part.outs bits) env
-      ∙ ap (λ o. write_all n s.i s.o s.regs (round_env n r bits) s.part.writes o bits) l.outs
+      ap (λ e. write_all n s.i s.regs e s.part.writes s.part.outs bits) env
+      ∙ ap (λ o. write_all n s.i s.regs (round_env n r bits) s.part.writes o bits) l.outs
       ∙ write_like r s (round_env n r bits) r.part.writes s.part.writes l.writes r.part.outs bits
 
   pub after_like : (rs ss : List (RoundOf Block)) → AreLike n rs ss → (bits : Spots)

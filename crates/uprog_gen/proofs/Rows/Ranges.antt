@@ -57,10 +57,10 @@ module _ (head : Shape) (n : ℕ) where
     ref_range : (x : BodyRef) → IsNamed r.part x → in_range head n (round_ref n r x) ≡ true
     ref_range (ref.In k) h =
         let p = nth_place r.part.reads k in
-        space_range p.space p.which (sub_value n r.i r.o r.regs p.sub) (is.reads k h.0 h.1)
+        space_range p.space p.which (sub_value n r.i r.regs p.sub) (is.reads k h.0 h.1)
     ref_range (ref.Out k) h =
         let p = nth_place r.part.writes k in
-        space_range p.space p.which (sub_value n r.i r.o r.regs p.sub) (is.writes k h.0 h.1)
+        space_range p.space p.which (sub_value n r.i r.regs p.sub) (is.writes k h.0 h.1)
     ref_range x h = refl
 
     command_range : (c : BodyCmd) → is_legal_cmd inputs outputs c ≡ true

@@ -20,7 +20,7 @@ pub record IsLaid (rows : ℕ) (head : Shape) (n : ℕ) (b : Bound) : Type 0 whe
 abbrev pub round_rows : ℕ → Shape → ℕ → Bound → RoundOf Block → Rows
 round_rows rows head n b r = record {
   input = λ k. if is_state (nth_place r.part.reads k).space then rows + 32
-      else spot_row head n b (nth_spot n r.i r.o r.regs r.part.reads k);
-  output = λ j. spot_row head n b (nth_spot n r.i r.o r.regs r.part.writes j);
+      else spot_row head n b (nth_spot n r.i r.regs r.part.reads k);
+  output = λ j. spot_row head n b (nth_spot n r.i r.regs r.part.writes j);
   spill = λ i. rows - 32 + i;
 }

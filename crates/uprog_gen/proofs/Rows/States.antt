@@ -51,12 +51,12 @@ held_is (p ∷ ps) k (suc j) l =
     grind (arith, held_is ps (k + 1) j (omega arith) ∙ ap (is_held (enters (k + 1) ps)) m)
 
 module _ (g : Graph) (f : ℕ → Bool) (s : Column) where
-  module _ (n i o : ℕ) (regs : List ℕ) where
-    the_spot : (p : Place) → is_state p.space ≡ true → spot_at n i o regs p ≡ state_spot p.which
+  module _ (n i : ℕ) (regs : List ℕ) where
+    the_spot : (p : Place) → is_state p.space ≡ true → spot_at n i regs p ≡ state_spot p.which
     the_spot p e = by p.space e
       where
         by : (x : Space) → is_state x ≡ true
-            → spot_at n i o regs (record { space = x; which = p.which; sub = p.sub })
+            → spot_at n i regs (record { space = x; which = p.which; sub = p.sub })
             ≡ state_spot p.which
         by Cells e = refl
         by x e = absurd (cc)
@@ -64,7 +64,7 @@ module _ (g : Graph) (f : ℕ → Bool) (s : Column) where
     -- the states that a body reads
     pub enter_cells : (bits : Spots) (ps : List Place) (k : ℕ) → ((j : ℕ) → j < length ps
         → is_state (nth_place ps j).space ≡ true → k + j < g.inputs)
-        → ((j : ℕ) → j < length ps → f (k + j) ≡ bits (nth_spot n i o regs ps j))
+        → ((j : ℕ) → j < length ps → f (k + j) ≡ bits (nth_spot n i regs ps j))
         → AreStanding bits s (states_in ps) → CellsHold g f (enters k ps) s
     enter_cells bits [] k le h st = tt
     enter_cells bits (p ∷ ps) k le h st = by (is_state p.space) refl st (λ t.
@@ -91,7 +91,7 @@ module _ (g : Graph) (f : ℕ → Bool) (s : Column) where
 
     -- the states that it leaves
     pub leave_cells : (bits : Spots) (ps : List Place) (ls : List Lit) → length ls ≡ length ps
-        → ((j : ℕ) → j < length ls → bits (nth_spot n i o regs ps j) ≡ value g f (lit_at ls j))
+        → ((j : ℕ) → j < length ls → bits (nth_spot n i regs ps j) ≡ value g f (lit_at ls j))
         → CellsHold g f (leaves ps ls) s → AreStanding bits s (states_in ps)
     leave_cells bits [] ls size h c = tt
     leave_cells bits (p ∷ ps) [] size h c = absurd (omega arith)

@@ -34,7 +34,7 @@ is_there s = is_in_register (λ r. true) s
 
 -- the register of a place's subscript holds it
 in_register : (n : ℕ) (g h : List ℕ) (s : Sub) → Alike g h → is_there s ≡ true
-    → slice_index h (register s) ≡ sub_value n 0 0 g s
+    → slice_index h (register s) ≡ sub_value n 0 g s
 in_register n g h Zero a e = get_or_past h 8 0 (omega (arith, a.code))
 in_register n g h (Register r) a e =
     let lt = ltb-true r 7 (and_parts (nat_lt r 7) true e).0 in
@@ -72,7 +72,7 @@ named n b g h stays a = record {
 module _ (head : Shape) (code : List Uop) (n : ℕ) where
   -- the commands of a flow's body
   abbrev issued_by : Block → List ℕ → List Issue
-  issued_by p g = map (round_command n (record { part = p; i = 0; o = 0; regs = g })) p.found
+  issued_by p g = map (round_command n (record { part = p; i = 0; regs = g })) p.found
 
   issues_rounds : (es : List (EventOf Block))
       → issues head issued_by n code es ≡ rounds_commands n (rounds_in es)

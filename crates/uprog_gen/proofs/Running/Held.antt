@@ -25,9 +25,9 @@ use Rattle.uprog_gen.proofs.Running.Runs.{Runs, run_then, run_none, run_at}
 -- the registers hold the subscripts of the body's places
 pub record Names (n : ℕ) (b : Block) (g regs : List ℕ) : Type 0 where
   pub reads : (k : ℕ) → slice_index regs (register (nth_place b.reads k).sub)
-      ≡ sub_value n 0 0 g (nth_place b.reads k).sub
+      ≡ sub_value n 0 g (nth_place b.reads k).sub
   pub writes : (k : ℕ) → slice_index regs (register (nth_place b.writes k).sub)
-      ≡ sub_value n 0 0 g (nth_place b.writes k).sub
+      ≡ sub_value n 0 g (nth_place b.writes k).sub
 
 -- the round's commands are in range
 abbrev pub InRange : Shape → ℕ → RoundOf Block → Type 0
@@ -36,16 +36,16 @@ InRange head n r = AllByRecursion (λ c. all_in_range head n c ≡ true)
 
 module _ (head : Shape) (code : List Uop) (n : ℕ) where
   row_is : (s : Space) (w : ℕ) (u : Sub) (g regs : List ℕ)
-      → slice_index regs (register u) ≡ sub_value n 0 0 g u
+      → slice_index regs (register u) ≡ sub_value n 0 g u
       → row_at regs (place_ref (record { space = s; which = w; sub = u }))
-      ≡ place_row n 0 0 g (record { space = s; which = w; sub = u })
+      ≡ place_row n 0 g (record { space = s; which = w; sub = u })
   row_is ScratchBit w u g regs e = refl
   row_is Cells w u g regs e = refl
   row_is s w u g regs e = ap (λ x. record { space = row_space s; which = w; index = x }) e
 
   module _ (p : Block) (at : List ℕ) where
     abbrev here : RoundOf Block
-    here = record { part = p; i = 0; o = 0; regs = at }
+    here = record { part = p; i = 0; regs = at }
 
     ref_is : (x : BodyRef) (regs : List ℕ) → Names n p at regs
         → row_at regs (code_ref p x) ≡ round_ref n here x

@@ -7,6 +7,7 @@ use Rattle.loop_ir.specs.Statements.{slots_of}
 use Rattle.block_lower.specs.Inputs.{AreNumbered, block_from}
 use Rattle.block_lower.specs.Form.{places_of, IsBlockBody}
 use Rattle.block_lower.specs.Choice.{AreFor}
+use Rattle.block_lower.proofs.Fitting.{left-own}
 use Rattle.block_lower.proofs.Making.{room, parts-few, inputs-below, inputs-most, output-values}
 use Rattle.block_lower.proofs.body.block_body.Goals as goal
 
@@ -64,9 +65,12 @@ pub returns-clause-found : goal.returns-clause-found
 returns-clause-found c =
     let made = c.in_ok-least.ensures in
     let choice = c.in_ok-least.least.choice in
-    subst (λ (b : Block). AreFor b.reads b.writes b.graph b.outs b.found)
+    let g = choice.graph.mig in
+    let outs = choice.graph.outs.items in
+    let cmds = choice.found.items in
+    subst (λ (b : Block). AreFor b.reads b.writes b.graph b.outs b.graph b.outs b.found)
     (sym c.body_at.ensures)
-    (subst (λ ps. AreFor c.in_ok-reads.reads.items ps choice.graph.mig choice.graph.outs.items
-    choice.found.items) c.deref-3.ensures.value
-    (subst (λ ps. AreFor ps c.deref-3.result.now choice.graph.mig choice.graph.outs.items
-    choice.found.items) c.deref-2.ensures.value made.found))
+    (subst (λ ps. AreFor c.in_ok-reads.reads.items ps g outs g outs cmds) c.deref-3.ensures.value
+    (subst (λ ps. AreFor ps c.deref-3.result.now g outs g outs cmds) c.deref-2.ensures.value
+    (left-own c.deref-2.result.now c.deref-3.result.now c.in_ok-graph.graph.mig
+    c.in_ok-graph.graph.outs.items g outs cmds made.found)))

@@ -17,24 +17,7 @@ returns-clause-dropped c = λ right.
     } in
     let keeps = keeps-twice m.mig made.mig new.mig m.outs.items made.outs.items new.outs.items first
     c.in_ok-new.ensures.keeps in
-    let no : length new.mig.nodes ≤ length m.mig.nodes → ⊥ = λ few. false≢true
-    (sym c.if-branch.false ∙ c.in_ok-may_stand.ensures.1 (right.few, keeps, few)) in
-    record {
-      graph = new.mig;
-      outs = new.outs.items;
-      offered = record {
-        inputs = c.in_ok-new.ensures.keeps.inputs ∙ c.in_ok-made.ensures.inputs;
-        long = c.in_ok-new.ensures.keeps.long ∙ c.in_ok-made.ensures.long;
-        count = omega (arith, c.in_ok-new.ensures.count, c.in_ok-made.ensures.count);
-        values = λ bits j b. c.in_ok-new.ensures.keeps.values bits j
-            (omega (arith, b, c.in_ok-new.ensures.keeps.long))
-            ∙ c.in_ok-made.ensures.values bits j
-            (omega (arith, b, c.in_ok-new.ensures.keeps.long, c.in_ok-made.ensures.long));
-      };
-      reduced = c.in_ok-new.ensures.reduced;
-      reached = c.in_ok-new.ensures.reached;
-      more = omega (arith, no);
-    }
+    absurd (false≢true (sym c.if-branch.false ∙ c.in_ok-keeps_outputs.ensures.1 (right.few, keeps)))
 
 pub returns-then-branch-clause-offered : goal.returns-then-branch-clause-offered
 returns-then-branch-clause-offered c =
