@@ -178,7 +178,7 @@ job_by t job =
     record { text = t; script = job.script; image = job.image; program = job.program }
 
 -- Row by row, whatever the flips are: the chip, which has begun with the image's geometry, its
--- banks, its counters and its log; OUT, which has the guarded word machine's table and these rows;
+-- banks, its counters and its log; OUT, which has the table after the script and these rows;
 -- the report; and the status
 pub record GuardedRows (out : List ℕ) (job : GuardJob) (after : Files) (old new : World)
     (status : ℕ) : Type 0 where
@@ -197,7 +197,7 @@ pub record GuardedRows (out : List ℕ) (job : GuardJob) (after : Files) (old ne
 abbrev pub operations_by : List TextOp → GuardJob → Routines
 operations_by t job = routines_of t job.program
 
--- its replies to the script
+-- the replies to the script, by the text's operations
 abbrev pub replies_by : List TextOp → GuardJob → List Reply
 replies_by t job = guarded_replies job.image.geometry (operations_by t job) job.image.table
     job.script
@@ -206,23 +206,23 @@ replies_by t job = guarded_replies job.image.geometry (operations_by t job) job.
 abbrev pub lone_first : GuardJob → List Held
 lone_first job = first_copies (objects_held job.image)
 
--- the word machine's state after the script on these
+-- what the word machine makes of these by the script, as the text's ops mean it
 abbrev pub lone_by : List TextOp → GuardJob → List Held
 lone_by t job = lone_words_at_end job.image.geometry (routines_in job.program) (meaning_in t)
     job.image.table (lone_first job) job.script
 
--- which elements at one spot are whole in IMAGE: those whose copies are equal
+-- which elements at one spot are sure to be right in IMAGE: those whose copies are equal
 abbrev pub whole_in : GuardJob → Spot → Whole
 whole_in job spot = whole_first job.image.geometry spot (objects_held job.image)
 
--- which are whole at the end
+-- which are sure to be right at the end, by the hits alone
 abbrev pub whole_at_last : GuardJob → Spot → Whole
 whole_at_last job spot = whole_at_end job.image.geometry (routines_in job.program) job.flips 1 spot
     job.image.table (whole_in job spot) job.script
 
--- Of the elements at one spot, each by itself: if it is whole at the end, all three copies have the
--- number that the word machine gives it; and what was printed of it while it was whole is its
--- number
+-- Of the elements at one spot, each by itself: if it is sure to be right at the end, all three
+-- copies have the number that the word machine gives it on one copy; and so has what was printed of
+-- it while it was sure to be right
 pub record ElementsRight (t : List TextOp) (job : GuardJob) (banks : Banks) (spot : Spot) : Type 0
   where
     pub held : HoldsWhole job.image.geometry banks spot (whole_at_last job spot)
@@ -231,9 +231,9 @@ pub record ElementsRight (t : List TextOp) (job : GuardJob) (banks : Banks) (spo
         job.flips 1 spot (whole_in job spot) job.image.table (opened job.image) (lone_first job)
         job.script
 
--- By the ops of a text that the program does: the replies and the table are the guarded word
--- machine's, whatever the flips are, and no walk was stuck; and at each spot the whole elements are
--- right, whatever befell others
+-- By the ops of a text that the program does: the replies and the table are those of the text's
+-- operations, whatever the flips are, and no walk was stuck; and at each spot the elements that are
+-- sure to be right by their hits are, whatever befell others
 pub record GuardedWords (t : List TextOp) (job : GuardJob) (banks : Banks) : Type 0 where
   pub replies : replies_of job ≡ replies_by t job
   pub walks : AllByRecursion IsNoBadWalk (replies_by t job)
