@@ -295,7 +295,9 @@ fn bbop_of(op: &[u8], places: &[Written<'_>], numbers: &[Digits<'_>]) -> Result<
 fn values_of(numbers: &[Digits<'_>], alloc: Global) -> Result<Vec<Value>, LineError>
     ensures { ValuesOf numbers.now result }
 {
-    let mut values = Vec::new(alloc);
+    let Ok(mut values) = Vec::with_capacity(alloc, numbers.len()) else {
+        return Err(LineError::NoMemory);
+    };
     for number in numbers {
         let Some(value) = number.value() else {
             return Err(Bad(BadNumber));

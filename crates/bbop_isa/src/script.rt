@@ -1,6 +1,7 @@
 //! Whole scripts.
 
-ghost use Rattle.std.specs.Prelude.{◌≡◌, ◌<◌, ◌^◌, length, map, Ok, Err, IfOk, IfErr};
+ghost use Rattle.std.specs.Prelude.{◌≡◌, ◌+◌, ◌*◌, ◌<◌, ◌≤◌, ◌^◌, length, map, Ok, Err};
+ghost use Rattle.std.specs.Prelude.{IfOk, IfErr};
 ghost use Rattle.bbop_isa.specs.Forms.{view_of};
 ghost use Rattle.bbop_isa.specs.Script.{script_of, Refused};
 ghost use Rattle.bbop_isa.specs.Reading.{AddsLine};
@@ -21,6 +22,27 @@ fn add_line(script: &mut Vec<Instr>, line: &[u8], alloc: Global) -> Result<(), L
     Ok(())
 }
 
+/// How many bytes the shortest instruction has: `free a`.
+const SHORTEST: usize = 6;
+
+/// How many of the text's lines are long enough for an instruction.
+fn long_lines(text: &[u8]) -> usize
+    ensures few { 7 * result ≤ length text.now + 1 }
+{
+    let mut count = 0;
+    let mut rest = text;
+    'lines: loop {
+        let (line, others) = split_line(rest);
+        if line.len() >= SHORTEST {
+            count += 1;
+        }
+        let Some(more) = others else {
+            return count;
+        };
+        rest = more;
+    }
+}
+
 /// The instructions of a script's lines, or the first line that breaks a rule. Time and memory are
 /// in proportion to the text.
 pub fn parse_script(text: &[u8], alloc: Global) -> Result<Vec<Instr>, ScriptNo>
@@ -28,7 +50,9 @@ pub fn parse_script(text: &[u8], alloc: Global) -> Result<Vec<Instr>, ScriptNo>
     ensures accepted { IfOk result (λ script. script_of text.now ≡ Ok (map view_of script.items)) }
     ensures refused { IfErr result (Refused text.now) }
 {
-    let mut script = Vec::new(alloc);
+    let Ok(mut script) = Vec::with_capacity(alloc, long_lines(text)) else {
+        return Err(ScriptNo::NoMemory);
+    };
     let mut rest = text;
     let mut number: u64 = 1;
     'lines: loop {

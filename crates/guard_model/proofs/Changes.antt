@@ -24,11 +24,11 @@ use Rattle.machine_model.specs.Steps.{Held, table_of, new_object, base_for, word
 use Rattle.machine_model.specs.Script.{words_at_end, is_refused, replies}
 use Rattle.machine_model.proofs.Facts.{first_none, when_none}
 use Rattle.machine_model.proofs.Places.{bytes_same}
-use Rattle.guard_model.specs.Triples.{x_letter, y_letter, z_letter, unplaced}
+use Rattle.guard_model.specs.Triples.{x_letter, y_letter, z_letter}
 use Rattle.guard_model.specs.Guarded.{place_on, plain_script, guarded_reply, joined, done_ones}
 use Rattle.guard_model.specs.Guarded.{adds}
 use Rattle.guard_model.specs.Laws.{HasName}
-use Rattle.guard_model.proofs.Trios.{Trio, copy, spread, alone, HaveNames}
+use Rattle.guard_model.proofs.Trios.{Trio, copy, spread, alone, HaveNames, unplaced}
 use Rattle.guard_model.proofs.Names.{is_x, is_y, is_z, letters_differ, copies_like, has_copy}
 use Rattle.guard_model.proofs.Refused.{free_like}
 use Rattle.guard_model.proofs.Runs.{AllDone, words_all, script_for, script_by, script_done}

@@ -1,5 +1,5 @@
 -- The guarded step of trios, for the instructions on objects that stand.
-use Rattle.std.proofs.Common.{◌≡◌, ℕ, Bool, true, false, cond, List, [], ◌∷◌, map, Option, Some}
+use Rattle.std.proofs.Common.{◌≡◌, ℕ, true, false, cond, List, [], ◌∷◌, map, Option, Some}
 use Rattle.std.proofs.Common.{None, refl, sym, ◌∙◌, ap, inl, inr, ◌⊎◌}
 use Rattle.std.specs.Prelude.{replicate, slice_index}
 use Rattle.dram_model.specs.declared.geometry.Geometry.{Geometry}
@@ -14,16 +14,17 @@ use Rattle.machine_model.specs.Refusals.{refusal, rows_of}
 use Rattle.machine_model.specs.Steps.{Held, table_of, numbers_named, numbers_at, computed, worded}
 use Rattle.machine_model.specs.Steps.{tabled, with_results, new_numbers, dsts_of, srcs_of}
 use Rattle.machine_model.specs.Script.{words_at_end, is_refused, replies}
-use Rattle.guard_model.specs.Triples.{x_letter, y_letter, z_letter, unplaced}
-use Rattle.guard_model.specs.Guarded.{plain_ones, plain_script, guarded_words, guarded_reply}
+use Rattle.guard_model.specs.Triples.{x_letter, y_letter, z_letter}
+use Rattle.guard_model.specs.Guarded.{plain_ones, plain_script, guarded_reply}
 use Rattle.guard_model.specs.Guarded.{joined, adds, place_on}
-use Rattle.guard_model.proofs.Trios.{Trio, copy, spread, alone, HaveNames}
+use Rattle.guard_model.proofs.Trios.{Trio, copy, spread, alone, HaveNames, unplaced}
 use Rattle.guard_model.proofs.Names.{Letter, is_x, is_y, is_z, copy_numbers, copies_like, under}
 use Rattle.guard_model.proofs.Names.{new_under, given, given_same, table_given, other_given}
 use Rattle.guard_model.proofs.Refused.{bbop_like, load_like, fill_like, named, mixed_refusal}
 use Rattle.guard_model.proofs.Refused.{dsts_like, srcs_like}
 use Rattle.guard_model.proofs.Runs.{AllDone, all_worded, words_all, script_for, script_done}
 use Rattle.guard_model.proofs.Runs.{script_refused, reply_done, reply_first, none_yet}
+use Rattle.guard_model.proofs.Runs.{guarded_words}
 
 -- what a guarded instruction makes of trios: trios again, and of the one copy what the word machine
 -- makes of it

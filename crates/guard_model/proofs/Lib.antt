@@ -2,14 +2,14 @@ pub mod Numbers
 pub mod Votes
 pub mod Trios
 pub mod Flips
-pub mod Mends
 pub mod Commands
 pub mod Names
 pub mod Refused
 pub mod Runs
 pub mod Keeps
 pub mod Changes
-pub mod Alone
+pub mod Likes
+pub mod Mends
 pub mod Whole
 pub mod Texts
 pub mod Pieces

@@ -1,93 +1,174 @@
--- Votes leave each copy's numbers as they were before flips that hit at most one copy in a column.
-use Rattle.std.proofs.Common.{◌≡◌, ℕ, zero, suc, ◌+◌, ◌-◌, ◌<◌, ◌≤◌, List, [], ◌∷◌, ◌++◌, length}
-use Rattle.std.proofs.Common.{get_or, map, refl, sym, ◌∙◌, ap, subst, arith, inl, inr}
-use Rattle.std.specs.List.{AllByRecursion, range_with_len, flat_map}
-use Rattle.std.proofs.lemmas.Bool.{cases_lt}
+-- What flips and votes leave: the copies are equal, and elements that survive are as they were.
+use Rattle.std.proofs.Common.{◌≡◌, ◌≢◌, ℕ, zero, suc, ◌+◌, ◌-◌, ◌*◌, ◌<◌, ◌≤◌, Bool, true, false}
+use Rattle.std.proofs.Common.{not, ◌&&◌, ◌||◌, cond, ltb, List, [], ◌∷◌, ◌++◌, length, get_or, map}
+use Rattle.std.proofs.Common.{refl, sym, ◌∙◌, ap, subst, arith, inl, inr}
+use Rattle.std.specs.List.{AllByRecursion, range_with_len, flat_map, list_all}
+use Rattle.std.specs.Str.{bytes_eq}
+use Rattle.std.proofs.lemmas.Bool.{cases_lt, lt-ltb}
 use Rattle.std.proofs.lemmas.List.{length-map, get_or-map, map-append, ext_get_or}
-use Rattle.std.proofs.lemmas.List.Elements.{All-from_recursion, recursion_from_All}
+use Rattle.std.proofs.lemmas.List.{get_or-append_right}
+use Rattle.std.proofs.lemmas.Nat.{mul-le}
+use Rattle.dram_model.specs.declared.address.Cell.TheVariants.{D}
 use Rattle.dram_model.specs.declared.geometry.Geometry.{Geometry}
+use Rattle.bit_rows.specs.Bits.{majority}
 use Rattle.dram_model.specs.Column.{Column, run, blank}
 use Rattle.dram_model.specs.Chip.{Banks}
-use Rattle.dram_model.specs.Elements.{number}
+use Rattle.dram_model.specs.Elements.{below, column_count, number}
 use Rattle.object_alloc.specs.declared.table.Object.{Object}
 use Rattle.object_alloc.specs.Listed.{Named}
 use Rattle.machine_model.specs.Columns.{segments, columns}
 use Rattle.machine_model.specs.Steps.{Held, table_of, through}
-use Rattle.wave_model.specs.Schedule.{WaveJob}
-use Rattle.machine_model.specs.Agrees.{Agrees, HoldsNumbers}
-use Rattle.machine_model.proofs.Below.{through_in, through_same, number_same}
+use Rattle.machine_model.proofs.Below.{below_length}
+use Rattle.machine_model.proofs.Places.{bytes_same}
 use Rattle.machine_model.proofs.Steps.{through_length}
 use Rattle.guard_model.specs.declared.Flip.{Flip}
-use Rattle.guard_model.specs.Flips.{due, all_flipped, AtMostOne}
+use Rattle.guard_model.specs.Flips.{all_flipped, is_hit, survives}
+use Rattle.guard_model.specs.Survival.{Spot, Whole, element_at, survives_in}
+use Rattle.guard_model.specs.Triples.{x_letter}
 use Rattle.guard_model.specs.Votes.{votes, vote_job, voted}
-use Rattle.guard_model.specs.Guarded.{mended}
-use Rattle.guard_model.specs.Laws.{VotesMend}
-use Rattle.guard_model.proofs.Votes.{Two, first_two, outer_two, last_two, RowsApart, vote_mends}
-use Rattle.guard_model.proofs.Votes.{votes_others}
-use Rattle.guard_model.proofs.Trios.{Trio, place, spread, spread_of, Separate, TriosApart, OutOf}
-use Rattle.guard_model.proofs.Trios.{separate_of}
-use Rattle.guard_model.proofs.Flips.{flips_length, not_hit, two_of}
+use Rattle.guard_model.proofs.Flips.{flips_length, not_hit}
+use Rattle.guard_model.proofs.Likes.{AllLike, Like, weaken}
+use Rattle.guard_model.proofs.Numbers.{bits_of_number, number_of_bits}
+use Rattle.guard_model.proofs.Trios.{Trio, place, spread, Separate, TriosApart, OutOf, and_both}
+use Rattle.guard_model.proofs.Votes.{RowsApart, Voted, most, most_of, votes_others, votes_own}
 
-abbrev at : Banks → ℕ → ℕ → Column
+abbrev pub at : Banks → ℕ → ℕ → Column
 at banks bank c = get_or (banks bank) c blank
 
--- two of the three copies have in each column the number that the first had
-abbrev Good : Geometry → Banks → Banks → Trio → Type 0
-Good g old now t =
-    (bank : ℕ) → bank < segments g (place t t.x) → (c : ℕ) → c < length (now bank)
-    → Two (number t.x t.width (at old bank c)) (number t.x t.width (at now bank c))
-    (number t.y t.width (at now bank c)) (number t.z t.width (at now bank c))
+-- the votes of a trio, on a column of this bank
+abbrev vote : Geometry → ℕ → Trio → Column → Column
+vote g bank t s = cond (ltb bank (segments g (place t t.x)))
+    (run (votes t.x t.y t.z 0 t.width) s) s
 
--- all three have it
-abbrev Mended : Geometry → Banks → Banks → Trio → Type 0
-Mended g old now t =
-    (bank : ℕ) → bank < segments g (place t t.x)
-    → (map (number t.x t.width) (now bank) ≡ map (number t.x t.width) (old bank))
-    × (map (number t.y t.width) (now bank) ≡ map (number t.x t.width) (old bank))
-    × (map (number t.z t.width) (now bank) ≡ map (number t.x t.width) (old bank))
+-- those of several in turn
+abbrev vote_all : Geometry → ℕ → List Trio → Column → Column
+vote_all g bank [] s = s
+vote_all g bank (t ∷ ts) s = vote_all g bank ts (vote g bank t s)
 
-abbrev job : Geometry → Trio → WaveJob
-job g t = vote_job g (place t t.x) (place t t.y) (place t t.z)
+map_case : (b : Bool) (h : Column → Column) (columns : List Column) (c : ℕ) → c < length columns
+    → get_or (cond b (map h columns) columns) c blank
+    ≡ cond b (h (get_or columns c blank)) (get_or columns c blank)
+map_case true h columns c l = get_or-map h columns c blank blank l
+map_case false h columns c l = refl
 
--- the vote of t leaves an object that has none of its rows
-vote_leaves : (t : Trio) (o : Object) (s : Column) → OutOf t o → number o.base o.width
-    (run (votes t.x t.y t.z 0 t.width) s) ≡ number o.base o.width s
-vote_leaves t o s out =
-    number_same o.base o.width s (run (votes t.x t.y t.z 0 t.width) s)
-    (λ row a b. votes_others s t.x t.y t.z 0 t.width row (λ k l m.
-    let j = row - o.base in
-    let e : o.base + j ≡ row = omega arith in (
-      λ f. out.0 k j (omega arith) (omega arith) (f ∙ sym e),
-      λ f. out.1 k j (omega arith)
-          (omega arith) (f ∙ sym e),
-      λ f. out.2 k j (omega arith) (omega arith) (f ∙ sym e),
-    )))
-
-voted_length : (g : Geometry) (ts : List Trio) (now : Banks) (bank : ℕ) → length
-    (voted g (table_of (spread ts)) now bank) ≡ length (now bank)
+pub voted_length : (g : Geometry) (ts : List Trio) (now : Banks) (bank : ℕ)
+    → length (voted g (table_of (spread ts)) now bank) ≡ length (now bank)
 voted_length g [] now bank = refl
-voted_length g (t ∷ ts) now bank = voted_length g ts (through (job g t) now) bank ∙ through_length
-    (job g t) now bank
+voted_length g (t ∷ ts) now bank =
+    let job = vote_job g (place t t.x) (place t t.y) (place t t.z) in
+    voted_length g ts (through job now) bank ∙ through_length job now bank
 
-leaves_bank : (g : Geometry) (t : Trio) (o : Object) (now : Banks) (bank : ℕ) → OutOf t o → map
-    (number o.base o.width) (through (job g t) now bank) ≡ map (number o.base o.width) (now bank)
-leaves_bank g t o now bank out = through_same (number o.base o.width) (job g t) now bank
-    (λ s. vote_leaves t o s out)
+voted_at : (g : Geometry) (ts : List Trio) (now : Banks) (bank c : ℕ) → c < length (now bank)
+    → at (voted g (table_of (spread ts)) now) bank c ≡ vote_all g bank ts (at now bank c)
+voted_at g [] now bank c l = refl
+voted_at g (t ∷ ts) now bank c l =
+    let job = vote_job g (place t t.x) (place t t.y) (place t t.z) in
+    voted_at g ts (through job now) bank c (omega (arith, through_length job now bank))
+    ∙ ap (vote_all g bank ts) (map_case (ltb bank (segments g (place t t.x)))
+    (run (votes t.x t.y t.z 0 t.width)) (now bank) c l)
 
--- the votes of ts leave an object that is apart from them
-voted_leaves : (g : Geometry) (ts : List Trio) (o : Object) (now : Banks) (bank : ℕ)
-    → AllByRecursion (λ t. OutOf t o) ts → map (number o.base o.width)
-    (voted g (table_of (spread ts)) now bank) ≡ map (number o.base o.width) (now bank)
-voted_leaves g [] o now bank out = refl
-voted_leaves g (t ∷ ts) o now bank out = voted_leaves g ts o (through (job g t) now) bank out.1
-    ∙ leaves_bank g t o now bank out.0
+-- A row that is in no copy of a trio stays
+abbrev Outside : Trio → ℕ → Type 0
+Outside t r = (k : ℕ) → k < t.width → (t.x + k ≢ r) × (t.y + k ≢ r) × (t.z + k ≢ r)
 
--- where the numbers of a bank are the same, each column's is
-at_same : (f h : Column → ℕ) (xs ys : List Column) (c : ℕ) → map f xs ≡ map h ys → length xs
-    ≡ length ys → c < length xs → f (get_or xs c blank) ≡ h (get_or ys c blank)
-at_same f h xs ys c e l m = sym (get_or-map f xs c blank 0 m) ∙ ap (λ ns. get_or ns c 0) e
-    ∙ get_or-map h ys c blank 0 (omega arith)
+out_row : (t : Trio) (o : Object) (k : ℕ) → OutOf t o → k < o.width → Outside t (o.base + k)
+out_row t o k out l = λ j m. (out.0 j k m l, out.1 j k m l, out.2 j k m l)
 
+other_case : (b : Bool) (t : Trio) (s : Column) (r : ℕ) → Outside t r
+    → (cond b (run (votes t.x t.y t.z 0 t.width) s) s) (D r) ≡ s (D r)
+other_case true t s r out =
+    votes_others s t.x t.y t.z 0 t.width r (λ k l m. out k (omega arith))
+other_case false t s r out = refl
+
+others : (g : Geometry) (bank : ℕ) (ts : List Trio) (s : Column) (r : ℕ)
+    → AllByRecursion (λ t. Outside t r) ts → vote_all g bank ts s (D r) ≡ s (D r)
+others g bank [] s r out = refl
+others g bank (t ∷ ts) s r out =
+    others g bank ts (vote g bank t s) r out.1
+    ∙ other_case (ltb bank (segments g (place t t.x))) t s r out.0
+
+all_outside : (t : Trio) (ts : List Trio) (r : ℕ) → ((u : Trio) → TriosApart u t → Outside u r)
+    → AllByRecursion (λ u. TriosApart u t) ts → AllByRecursion (λ u. Outside u r) ts
+all_outside t [] r out h = tt
+all_outside t (u ∷ ts) r out h = (out u h.0, all_outside t ts r out h.1)
+
+-- The rows of a trio become their majority
+abbrev BecomesMost : Geometry → ℕ → Column → Column → Trio → Type 0
+BecomesMost g bank old new t = bank < segments g (place t t.x) → (k : ℕ) → k < t.width
+    → Voted new old t.x t.y t.z k
+
+own_case : (b : Bool) (t : Trio) (s : Column) (k : ℕ) → b ≡ true → RowsApart t.x t.y t.z t.width
+    → k < t.width → Voted (cond b (run (votes t.x t.y t.z 0 t.width) s) s) s t.x t.y t.z k
+own_case true t s k e d l =
+    votes_own s t.x t.y t.z 0 t.width t.width k d (omega arith) (omega arith) (omega arith)
+own_case false t s k e d l = cc
+
+own_vote : (g : Geometry) (bank : ℕ) (t : Trio) (ts : List Trio) (s : Column)
+    → RowsApart t.x t.y t.z t.width → AllByRecursion (λ u. TriosApart u t) ts
+    → BecomesMost g bank s (vote_all g bank (t ∷ ts) s) t
+own_vote g bank t ts s d apart inside k l =
+    let own = own_case (ltb bank (segments g (place t t.x))) t s k (lt-ltb _ _ inside) d l in
+    let next = vote g bank t s in (
+      others g bank ts next (t.x + k)
+          (all_outside t ts (t.x + k) (λ u a. out_row u (place t t.x) k a.0 l) apart) ∙ own.0,
+      others g bank ts next (t.y + k)
+          (all_outside t ts (t.y + k) (λ u a. out_row u (place t t.y) k a.1 l) apart) ∙ own.1,
+      others g bank ts next (t.z + k)
+          (all_outside t ts (t.z + k) (λ u a. out_row u (place t t.z) k a.2 l) apart) ∙ own.2,
+    )
+
+-- the votes of another trio before leave the rows
+earlier_vote : (g : Geometry) (bank : ℕ) (t u : Trio) (s new : Column) → TriosApart t u
+    → BecomesMost g bank (vote g bank t s) new u → BecomesMost g bank s new u
+earlier_vote g bank t u s new a h inside k l =
+    let b = ltb bank (segments g (place t t.x)) in
+    let x = other_case b t s (u.x + k) (out_row t (place u u.x) k a.0 l) in
+    let y = other_case b t s (u.y + k) (out_row t (place u u.y) k a.1 l) in
+    let z = other_case b t s (u.z + k) (out_row t (place u u.z) k a.2 l) in
+    let same : most (vote g bank t s) (u.x + k) (u.y + k) (u.z + k)
+    ≡ most s (u.x + k) (u.y + k) (u.z + k) = rw (x, y, z) refl in
+    let v = h inside k l in
+    (v.0 ∙ same, v.1 ∙ same, v.2 ∙ same)
+
+earlier_votes : (g : Geometry) (bank : ℕ) (t : Trio) (ts : List Trio) (s new : Column)
+    → AllByRecursion (TriosApart t) ts
+    → AllByRecursion (BecomesMost g bank (vote g bank t s) new) ts
+    → AllByRecursion (BecomesMost g bank s new) ts
+earlier_votes g bank t [] s new a h = tt
+earlier_votes g bank t (u ∷ ts) s new a h =
+    (earlier_vote g bank t u s new a.0 h.0, earlier_votes g bank t ts s new a.1 h.1)
+
+all_most : (g : Geometry) (bank : ℕ) (ts : List Trio) (s : Column) → Separate ts
+    → AllByRecursion (BecomesMost g bank s (vote_all g bank ts s)) ts
+all_most g bank [] s sep = tt
+all_most g bank (t ∷ ts) s sep = (
+  own_vote g bank t ts s sep.0 sep.2,
+  earlier_votes g bank t ts s (vote_all g bank ts (vote g bank t s)) sep.1
+      (all_most g bank ts (vote g bank t s) sep.3),
+)
+
+-- in every column of every bank
+abbrev AllBecomeMost : Geometry → Banks → Banks → Trio → Type 0
+AllBecomeMost g now new t =
+    (bank c : ℕ) → c < length (now bank) → BecomesMost g bank (at now bank c) (at new bank c) t
+
+swap : (P : ℕ → ℕ → Type 0) (Q : ℕ → ℕ → Trio → Type 0) (ts : List Trio)
+    → ((bank c : ℕ) → P bank c → AllByRecursion (Q bank c) ts)
+    → AllByRecursion (λ t. (bank c : ℕ) → P bank c → Q bank c t) ts
+swap P Q [] h = tt
+swap P Q (t ∷ ts) h =
+    (λ bank c p. (h bank c p).0, swap P Q ts (λ bank c p. (h bank c p).1))
+
+pub banks_become_most : (g : Geometry) (ts : List Trio) (now : Banks) → Separate ts
+    → AllByRecursion (AllBecomeMost g now (voted g (table_of (spread ts)) now)) ts
+banks_become_most g ts now sep =
+    swap (λ bank c. c < length (now bank)) (λ bank c.
+    BecomesMost g bank (at now bank c) (at (voted g (table_of (spread ts)) now) bank c)) ts
+    (λ bank c l. subst
+    (λ (s : Column). AllByRecursion (BecomesMost g bank (at now bank c) s) ts)
+    (sym (voted_at g ts now bank c l)) (all_most g bank ts (at now bank c) sep))
+
+-- So the copies are equal
 all_same : (f h : Column → ℕ) (xs ys : List Column) → length xs ≡ length ys
     → ((c : ℕ) → c < length xs → f (get_or xs c blank) ≡ h (get_or ys c blank)) → map f xs
     ≡ map h ys
@@ -95,217 +176,259 @@ all_same f h xs ys l e = ext_get_or 0 (map f xs) (map h ys) (simp length-map l)
     (λ c m. let n : c < length xs = simp length-map at m in get_or-map f xs c blank 0 n ∙ e c n
     ∙ sym (get_or-map h ys c blank 0 (omega arith)))
 
-two_same : {X : Type 0} (v a b c d e f : X) → a ≡ d → b ≡ e → c ≡ f → Two v a b c → Two v d e f
-two_same v a b c d e f p q r (first_two x y) = first_two (sym p ∙ x) (sym q ∙ y)
-two_same v a b c d e f p q r (outer_two x y) = outer_two (sym p ∙ x) (sym r ∙ y)
-two_same v a b c d e f p q r (last_two x y) = last_two (sym q ∙ x) (sym r ∙ y)
-
--- the vote of another keeps it good
-still_good : (g : Geometry) (old now : Banks) (t u : Trio) → TriosApart t u → Good g old now u
-    → Good g old (through (job g t) now) u
-still_good g old now t u apart good bank l c m =
-    let long = through_length (job g t) now bank in
-    let n : c < length (now bank) = omega arith in
-    two_same _ _ _ _ _ _ _
-    (sym (at_same (number u.x u.width) (number u.x u.width) _ _ c
-    (leaves_bank g t (place u u.x) now bank apart.0) long m))
-    (sym (at_same (number u.y u.width) (number u.y u.width) _ _ c
-    (leaves_bank g t (place u u.y) now bank apart.1) long m))
-    (sym (at_same (number u.z u.width) (number u.z u.width) _ _ c
-    (leaves_bank g t (place u u.z) now bank apart.2) long m))
-    (good bank l c n)
-
-all_still_good : (g : Geometry) (old now : Banks) (t : Trio) (ts : List Trio) → AllByRecursion
-    (TriosApart t) ts → AllByRecursion (Good g old now) ts → AllByRecursion
-    (Good g old (through (job g t) now)) ts
-all_still_good g old now t [] apart good = tt
-all_still_good g old now t (u ∷ ts) apart good =
-    (still_good g old now t u apart.0 good.0, all_still_good g old now t ts apart.1 good.1)
-
--- its own vote mends it
-own_vote : (g : Geometry) (old now : Banks) (t : Trio) → RowsApart t.x t.y t.z t.width
-    → ((bank : ℕ) → length (now bank) ≡ length (old bank)) → Good g old now t → Mended g old
-    (through (job g t) now) t
-own_vote g old now t d long good bank l =
-    let cs = votes t.x t.y t.z 0 t.width in
-    let new = through (job g t) now bank in
-    let is : new ≡ map (run cs) (now bank) = through_in (job g t) now bank l in
-    let same : length new ≡ length (old bank) = through_length (job g t) now bank ∙ long bank in
-    let column : (c : ℕ) → c < length new → get_or new c blank ≡ run cs (at now bank c) = λ c m. ap
-    (λ xs. get_or xs c blank) is ∙ get_or-map (run cs) (now bank) c blank blank
-    (omega (arith, through_length (job g t) now bank)) in
-    let mend = λ (c : ℕ) (m : c < length new). vote_mends (at now bank c) t.x t.y t.z t.width
-    (number t.x t.width (at old bank c)) d
-    (good bank l c (omega (arith, through_length (job g t) now bank))) in (
-      all_same (number t.x t.width) (number t.x t.width) new (old bank) same
-          (λ c m. ap (number t.x t.width) (column c m) ∙ (mend c m).0),
-      all_same (number t.y t.width) (number t.x t.width) new (old bank) same
-          (λ c m. ap (number t.y t.width) (column c m) ∙ (mend c m).1),
-      all_same (number t.z t.width) (number t.x t.width) new (old bank) same
-          (λ c m. ap (number t.z t.width) (column c m) ∙ (mend c m).2),
-    )
-
-out_x : (t : Trio) (ts : List Trio) → AllByRecursion (λ u. TriosApart u t) ts → AllByRecursion
-    (λ u. OutOf u (place t t.x)) ts
-out_x t [] h = tt
-out_x t (u ∷ ts) h = (h.0.0, out_x t ts h.1)
-
-out_y : (t : Trio) (ts : List Trio) → AllByRecursion (λ u. TriosApart u t) ts → AllByRecursion
-    (λ u. OutOf u (place t t.y)) ts
-out_y t [] h = tt
-out_y t (u ∷ ts) h = (h.0.1, out_y t ts h.1)
-
-out_z : (t : Trio) (ts : List Trio) → AllByRecursion (λ u. TriosApart u t) ts → AllByRecursion
-    (λ u. OutOf u (place t t.z)) ts
-out_z t [] h = tt
-out_z t (u ∷ ts) h = (h.0.2, out_z t ts h.1)
-
--- Every triple is mended
-all_mended : (g : Geometry) (old : Banks) (ts : List Trio) (now : Banks) → Separate ts
-    → ((bank : ℕ) → length (now bank) ≡ length (old bank)) → AllByRecursion (Good g old now) ts
-    → AllByRecursion (Mended g old (voted g (table_of (spread ts)) now)) ts
-all_mended g old [] now sep long good = tt
-all_mended g old (t ∷ ts) now sep long good =
-    let next = through (job g t) now in
-    let own = own_vote g old now t sep.0 long good.0 in (
-      λ bank l. (
-        voted_leaves g ts (place t t.x) next bank (out_x t ts sep.2) ∙ (own bank l).0,
-        voted_leaves g ts (place t t.y) next bank (out_y t ts sep.2) ∙ (own bank l).1,
-        voted_leaves g ts (place t t.z) next bank (out_z t ts sep.2) ∙ (own bank l).2,
-      ),
-      all_mended g old ts next sep.3 (λ bank. through_length (job g t) now bank ∙ long bank)
-          (all_still_good g old now t ts sep.1 good.1),
-    )
-
--- Columns of the first banks, bank by bank
-abbrev tail : List ℕ → List ℕ
-tail [] = []
-tail (n ∷ ns) = ns
-
-cons_same : (a b : ℕ) (r s : List ℕ) → a ≡ b → r ≡ s → a ∷ r ≡ b ∷ s
-cons_same a b r s e f = rw (e, f) refl
-
-append_same : (f h : Column → ℕ) (xs ys : List Column) → map f (xs ++ ys) ≡ map h (xs ++ ys)
-    → (map f xs ≡ map h xs) × (map f ys ≡ map h ys)
-append_same f h [] ys e = (refl, e)
-append_same f h (x ∷ xs) ys e =
-    let rest = append_same f h xs ys (ap tail e) in
-    (cons_same (f x) (h x) (map f xs) (map h xs) (ap (λ ns. get_or ns 0 0) e) rest.0, rest.1)
-
-range_apart : (f h : Column → ℕ) (banks : Banks) (a n bank : ℕ) → map f
-    (flat_map banks (range_with_len a n)) ≡ map h (flat_map banks (range_with_len a n)) → a ≤ bank
-    → bank < a + n → map f (banks bank) ≡ map h (banks bank)
-range_apart f h banks a zero bank e l m = absurd (omega arith)
-range_apart f h banks a (suc n) bank e l m =
-    let both = append_same f h (banks a) (flat_map banks (range_with_len (a + 1) n)) e in
-    elim (cases_lt a bank) [
-      | inl lt ↦ range_apart f h banks (a + 1) n bank both.1 (omega arith) (omega arith)
-      | inr ge ↦ let i : a ≡ bank = omega arith in subst
-          (λ b. map f (banks b) ≡ map h (banks b)) i both.0
-    ]
-
-range_both : (f h : Column → ℕ) (new old : Banks) (a n : ℕ)
-    → ((bank : ℕ) → a ≤ bank → bank < a + n → map f (new bank) ≡ map h (old bank)) → map f
-    (flat_map new (range_with_len a n)) ≡ map h (flat_map old (range_with_len a n))
-range_both f h new old a zero e = refl
-range_both f h new old a (suc n) e =
+range_both : (f h : Column → ℕ) (banks : Banks) (a n : ℕ)
+    → ((bank : ℕ) → a ≤ bank → bank < a + n → map f (banks bank) ≡ map h (banks bank)) → map f
+    (flat_map banks (range_with_len a n)) ≡ map h (flat_map banks (range_with_len a n))
+range_both f h banks a zero e = refl
+range_both f h banks a (suc n) e =
     rw (
-      map-append f (new a) (flat_map new (range_with_len (a + 1) n)),
-      map-append h (old a)
-          (flat_map old (range_with_len (a + 1) n)),
+      map-append f (banks a) (flat_map banks (range_with_len (a + 1) n)),
+      map-append h (banks a)
+          (flat_map banks (range_with_len (a + 1) n)),
       e a (omega arith)
           (omega arith),
-      range_both f h new old (a + 1) n
-          (λ bank l m. e bank (omega arith) (omega arith)),
+      range_both f h banks (a + 1) n (λ bank l m. e bank (omega arith) (omega arith)),
     ) refl
 
-abbrev Holds : Geometry → Banks → Trio → Type 0
-Holds g banks t = (columns g banks (place t t.x) ≡ t.numbers)
-    × (columns g banks (place t t.y) ≡ t.numbers) × (columns g banks (place t t.z) ≡ t.numbers)
+abbrev pub EqualIn : Geometry → Banks → Trio → Type 0
+EqualIn g banks t = (columns g banks (place t t.y) ≡ columns g banks (place t t.x))
+    × (columns g banks (place t t.z) ≡ columns g banks (place t t.x))
 
-abbrev Right : Geometry → Banks → Held → Type 0
-Right g banks h = columns g banks h.object ≡ h.numbers
-
-holds_each : (g : Geometry) (banks : Banks) (ts : List Trio) → AllByRecursion (Right g banks)
-    (spread ts) → AllByRecursion (Holds g banks) ts
-holds_each g banks [] h = tt
-holds_each g banks (t ∷ ts) h = ((h.0, h.1.0, h.1.1.0), holds_each g banks ts h.1.1.1)
-
-each_holds : (g : Geometry) (banks : Banks) (ts : List Trio) → AllByRecursion (Holds g banks) ts
-    → AllByRecursion (Right g banks) (spread ts)
-each_holds g banks [] h = tt
-each_holds g banks (t ∷ ts) h = (h.0.0, (h.0.1, (h.0.2, each_holds g banks ts h.1)))
-
-pub holds_of : (g : Geometry) (banks : Banks) (ts : List Trio) → HoldsNumbers g banks (spread ts)
-    → AllByRecursion (Holds g banks) ts
-holds_of g banks ts h = holds_each g banks ts (recursion_from_All (Right g banks) (spread ts) h)
-
-pub holds_back : (g : Geometry) (banks : Banks) (ts : List Trio) → AllByRecursion (Holds g banks) ts
-    → HoldsNumbers g banks (spread ts)
-holds_back g banks ts h = All-from_recursion (Right g banks) (spread ts) (each_holds g banks ts h)
-
-mended_holds : (g : Geometry) (old new : Banks) (t : Trio) → Holds g old t → Mended g old new t
-    → Holds g new t
-mended_holds g old new t h m = (
-  range_both (number t.x t.width) (number t.x t.width) new old 0 (segments g (place t t.x))
-      (λ bank a b. (m bank (omega arith)).0) ∙ h.0,
-  range_both (number t.y t.width) (number t.x t.width) new old 0 (segments g (place t t.x))
-      (λ bank a b. (m bank (omega arith)).1) ∙ h.0,
-  range_both (number t.z t.width) (number t.x t.width) new old 0 (segments g (place t t.x))
-      (λ bank a b. (m bank (omega arith)).2) ∙ h.0,
+one_equal : (g : Geometry) (now new : Banks) (t : Trio)
+    → ((bank : ℕ) → length (new bank) ≡ length (now bank)) → AllBecomeMost g now new t
+    → EqualIn g new t
+one_equal g now new t long h = (
+  range_both (number t.y t.width) (number t.x t.width) new 0 (segments g (place t t.x))
+      (λ bank a l. all_same (number t.y t.width) (number t.x t.width) (new bank) (new bank) refl
+      (λ c m. let v = h bank c (omega (arith, long bank)) (omega arith) in
+      number_of_bits t.y t.x t.width (at new bank c) (at new bank c)
+      (λ k i. (v k i).1 ∙ sym (v k i).0))),
+  range_both (number t.z t.width) (number t.x t.width) new 0 (segments g (place t t.x))
+      (λ bank a l. all_same (number t.z t.width) (number t.x t.width) (new bank) (new bank) refl
+      (λ c m. let v = h bank c (omega (arith, long bank)) (omega arith) in
+      number_of_bits t.z t.x t.width (at new bank c) (at new bank c)
+      (λ k i. (v k i).2 ∙ sym (v k i).0))),
 )
 
-all_hold : (g : Geometry) (old new : Banks) (ts : List Trio) → AllByRecursion (Holds g old) ts
-    → AllByRecursion (Mended g old new) ts → AllByRecursion (Holds g new) ts
-all_hold g old new [] h m = tt
-all_hold g old new (t ∷ ts) h m = (mended_holds g old new t h.0 m.0, all_hold g old new ts h.1 m.1)
+pub all_equal : (g : Geometry) (now new : Banks) (ts : List Trio)
+    → ((bank : ℕ) → length (new bank) ≡ length (now bank))
+    → AllByRecursion (AllBecomeMost g now new) ts → AllByRecursion (EqualIn g new) ts
+all_equal g now new [] long h = tt
+all_equal g now new (t ∷ ts) long h =
+    (one_equal g now new t long h.0, all_equal g now new ts long h.1)
 
--- after flips that hit at most one copy
-flipped_good : (g : Geometry) (flips : List Flip) (old : Banks) (t : Trio) (rest : List Named)
-    → Holds g old t → AtMostOne g flips (table_of (spread (t ∷ [])) ++ rest) → Good g old
-    (all_flipped flips old) t
-flipped_good g flips old t rest h one bank l c m =
-    let long = flips_length flips old bank in
-    let n : c < length (old bank) = omega arith in
-    let y = range_apart (number t.y t.width) (number t.x t.width) old 0
-    (segments g (place t t.x)) bank (h.1 ∙ sym h.0) (omega arith) (omega arith) in
-    let z = range_apart (number t.z t.width) (number t.x t.width) old 0
-    (segments g (place t t.x)) bank (h.2 ∙ sym h.0) (omega arith) (omega arith) in
-    two_of (number t.x t.width (at old bank c)) _ _ _ _ _ _ (one.0 bank c l)
-    (λ e. not_hit flips (place t t.x) old bank c e)
-    (λ e. not_hit flips (place t t.y) old bank c e ∙ at_same (number t.y t.width)
-    (number t.x t.width) (old bank) (old bank) c y refl n)
-    (λ e. not_hit flips (place t t.z) old bank c e ∙ at_same (number t.z t.width)
-    (number t.x t.width) (old bank) (old bank) c z refl n)
+-- An element that survives keeps its number
+range_holds : (p : ℕ → Bool) (a n k : ℕ) → list_all p (range_with_len a n) ≡ true → a ≤ k
+    → k < a + n → p k ≡ true
+range_holds p a zero k h l m = absurd (omega arith)
+range_holds p a (suc n) k h l m =
+    let both = and_both (p a) (list_all p (range_with_len (a + 1) n)) h in
+    elim (cases_lt a k) [
+      | inl lt ↦ range_holds p (a + 1) n k both.1 (omega arith) (omega arith)
+      | inr ge ↦ let e : a ≡ k = omega arith in subst (λ j. p j ≡ true) e both.0
+    ]
 
-all_good : (g : Geometry) (flips : List Flip) (old : Banks) (ts : List Trio) → AllByRecursion
-    (Holds g old) ts → AtMostOne g flips (table_of (spread ts)) → AllByRecursion
-    (Good g old (all_flipped flips old)) ts
-all_good g flips old [] h one = tt
-all_good g flips old (t ∷ ts) h one =
-    (flipped_good g flips old t (table_of (spread ts)) h.0 one, all_good g flips old ts h.1 one.1)
+-- the number of the first copy, where those of the others were the same
+pub number_kept : (g : Geometry) (flips : List Flip) (old new : Banks) (bank c : ℕ) (t : Trio)
+    → bank < segments g (place t t.x)
+    → BecomesMost g bank (at (all_flipped flips old) bank c) (at new bank c) t
+    → survives flips bank c (place t t.x) (place t t.y) (place t t.z) ≡ true
+    → number t.y t.width (at old bank c) ≡ number t.x t.width (at old bank c)
+    → number t.z t.width (at old bank c) ≡ number t.x t.width (at old bank c)
+    → number t.x t.width (at new bank c) ≡ number t.x t.width (at old bank c)
+number_kept g flips old new bank c t inside becomes safe y z =
+    let s = at old bank c in
+    number_of_bits t.x t.x t.width (at new bank c) s (λ k l.
+    (becomes inside k l).0 ∙ most_of (s (D (t.x + k))) _ _ _
+    (is_hit flips bank c (t.x + k)) (is_hit flips bank c (t.y + k)) (is_hit flips bank c (t.z + k))
+    (range_holds (λ (j : ℕ). not (majority (is_hit flips bank c (t.x + j))
+    (is_hit flips bank c (t.y + j)) (is_hit flips bank c (t.z + j)))) 0 t.width k safe
+    (omega arith) (omega arith))
+    (λ e. not_hit flips old bank c (t.x + k) e)
+    (λ e. not_hit flips old bank c (t.y + k) e ∙ bits_of_number t.y t.x t.width k s s y l)
+    (λ e. not_hit flips old bank c (t.z + k) e ∙ bits_of_number t.z t.x t.width k s s z l))
 
--- The votes mend
-pub spread_mends : (g : Geometry) (flips : List Flip) (k : ℕ) (banks : Banks) (ts : List Trio)
-    → Agrees g banks (spread ts) → AtMostOne g (due k flips) (table_of (spread ts)) → Agrees g
-    (mended g flips k (table_of (spread ts)) banks) (spread ts)
-spread_mends g flips k banks ts a one =
-    let now = all_flipped (due k flips) banks in
-    let holds = holds_of g banks ts a.numbers in
-    record {
-      shaped = λ bank l. voted_length g ts now bank ∙ flips_length (due k flips) banks bank
-          ∙ a.shaped bank l;
-      table = a.table;
-      within = a.within;
-      numbers = holds_back g _ ts (all_hold g banks _ ts holds
-          (all_mended g banks ts now (separate_of ts a.table.rows)
-          (λ bank. flips_length (due k flips) banks bank)
-          (all_good g (due k flips) banks ts holds one)));
-    }
+-- Elements by their numbers
+past : (xs : List ℕ) (i : ℕ) → length xs ≤ i → get_or xs i 0 ≡ 0
+past [] i l = refl
+past (x ∷ xs) zero l = absurd (omega arith)
+past (x ∷ xs) (suc i) l = past xs i (omega arith)
 
-pub votes_mend : VotesMend
-votes_mend g flips k banks state triples equal a one =
-    let s = spread_of state 0 triples equal in
-    subst (λ (st : List Held). Agrees g banks st → AtMostOne g (due k flips) (table_of st)
-    → Agrees g (mended g flips k (table_of st) banks) st) s.spreads
-    (spread_mends g flips k banks s.trios) a one
+in_front : (xs ys : List Column) (c : ℕ) → c < length xs
+    → get_or (xs ++ ys) c blank ≡ get_or xs c blank
+in_front [] ys c l = absurd (omega arith)
+in_front (x ∷ xs) ys zero l = refl
+in_front (x ∷ xs) ys (suc c) l = in_front xs ys c (omega arith)
+
+range_at : (w : ℕ) (banks : Banks) (a n b c : ℕ) → ((i : ℕ) → i < n → length (banks (a + i)) ≡ w)
+    → b < n → c < w
+    → get_or (flat_map banks (range_with_len a n)) (b * w + c) blank ≡ at banks (a + b) c
+range_at w banks a zero b c long l m = absurd (omega arith)
+range_at w banks a (suc n) zero c long l m =
+    let z : a + 0 ≡ a = omega arith in
+    let i : 0 * w + c ≡ c = omega arith in
+    let size : length (banks a) ≡ w = subst (λ k. length (banks k) ≡ w) z (long 0 (omega arith)) in
+    ap (λ k. get_or (banks a ++ flat_map banks (range_with_len (a + 1) n)) k blank) i
+    ∙ in_front (banks a) (flat_map banks (range_with_len (a + 1) n)) c (omega arith)
+    ∙ ap (λ k. at banks k c) (sym z)
+range_at w banks a (suc n) (suc b) c long l m =
+    let z : a + 0 ≡ a = omega arith in
+    let size : length (banks a) ≡ w = subst (λ k. length (banks k) ≡ w) z (long 0 (omega arith)) in
+    let i : suc b * w + c - w ≡ b * w + c = omega arith in
+    let j : a + 1 + b ≡ a + suc b = omega arith in
+    get_or-append_right (banks a) (flat_map banks (range_with_len (a + 1) n)) w (suc b * w + c)
+    blank size (omega arith)
+    ∙ ap (λ k. get_or (flat_map banks (range_with_len (a + 1) n)) k blank) i
+    ∙ range_at w banks (a + 1) n b c (λ k h.
+    let e : a + suc k ≡ a + 1 + k = omega arith in
+    subst (λ (q : ℕ). length (banks q) ≡ w) e (long (suc k) (omega arith))) (omega arith) m
+    ∙ ap (λ k. at banks k c) j
+
+-- how many numbers an object has, and which stands in a column
+module _ (g : Geometry) (banks : Banks) (o : Object)
+    (long : (bank : ℕ) → bank < segments g o → length (banks bank) ≡ column_count g) where
+  pub columns_length : length (columns g banks o) ≡ column_count g * segments g o
+  columns_length = length-map (below (segments g o) banks) (number o.base o.width)
+      ∙ below_length (column_count g) (segments g o) banks long
+
+  number_at : (spot : Spot) → spot.column < column_count g → spot.bank < segments g o
+      → get_or (columns g banks o) (element_at g spot) 0
+      ≡ number o.base o.width (at banks spot.bank spot.column)
+  number_at spot l m =
+      let w = column_count g in
+      let n : suc spot.bank * w ≤ segments g o * w =
+      mul-le (suc spot.bank) w (segments g o) w (omega arith) (omega arith) in
+      let size = below_length w (segments g o) banks long in
+      let z : 0 + spot.bank ≡ spot.bank = omega arith in
+      get_or-map (number o.base o.width) (below (segments g o) banks) (element_at g spot) blank 0
+      (omega (arith, n, size))
+      ∙ ap (number o.base o.width) (range_at w banks 0 (segments g o) spot.bank spot.column
+      (λ i k. let e : 0 + i ≡ i = omega arith in
+      subst (λ (q : ℕ). length (banks q) ≡ w) (sym e) (long i k)) m l
+      ∙ ap (λ k. at banks k spot.column) z)
+
+  none_at : (spot : Spot) → segments g o ≤ spot.bank
+      → get_or (columns g banks o) (element_at g spot) 0 ≡ 0
+  none_at spot m =
+      let w = column_count g in
+      let n : segments g o * w ≤ spot.bank * w =
+      mul-le (segments g o) w spot.bank w m (omega arith) in
+      past (columns g banks o) (element_at g spot) (omega (arith, n, columns_length))
+
+-- The copies of trios, as they stand in banks
+abbrev pub held : Geometry → Banks → (Trio → ℕ) → Trio → Held
+held g banks base t = record {
+  name = t.name;
+  object = place t (base t);
+  numbers = columns g banks (place t (base t));
+}
+
+abbrev pub IsLong : Geometry → Banks → Trio → Type 0
+IsLong g banks t =
+    (bank : ℕ) → bank < segments g (place t t.x) → length (banks bank) ≡ column_count g
+
+-- its banks are among those of the chip
+abbrev pub IsWithin : Geometry → Trio → Type 0
+IsWithin g t = segments g (place t t.x) ≤ g.banks
+
+-- the first copy of one trio, where it is whole and survives
+module _ (g : Geometry) (flips : List Flip) (old new : Banks) (spot : Spot)
+    (fits : spot.column < column_count g) (t : Trio) (o : Held) (before : IsLong g old t)
+    (after : IsLong g new t)
+    (becomes : AllBecomeMost g (all_flipped flips old) new t) where
+  one_kept : survives flips spot.bank spot.column (place t t.x) (place t t.y) (place t t.z) ≡ true
+      → get_or (columns g old (place t t.y)) (element_at g spot) 0
+      ≡ get_or (columns g old (place t t.x)) (element_at g spot) 0
+      → get_or (columns g old (place t t.z)) (element_at g spot) 0
+      ≡ get_or (columns g old (place t t.x)) (element_at g spot) 0
+      → get_or (columns g new (place t t.x)) (element_at g spot) 0
+      ≡ get_or (columns g old (place t t.x)) (element_at g spot) 0
+  one_kept safe y z = elim (cases_lt spot.bank (segments g (place t t.x))) [
+    | inl lt ↦
+        let in_x = number_at g old (place t t.x) before spot fits lt in
+        let in_y = number_at g old (place t t.y) before spot fits lt in
+        let in_z = number_at g old (place t t.z) before spot fits lt in
+        let full = flips_length flips old spot.bank in
+        number_at g new (place t t.x) after spot fits lt
+        ∙ number_kept g flips old new spot.bank spot.column t lt
+        (becomes spot.bank spot.column (omega (arith, full, before spot.bank lt))) safe
+        (sym in_y ∙ y ∙ in_x) (sym in_z ∙ z ∙ in_x)
+        ∙ sym in_x
+    | inr ge ↦ none_at g new (place t t.x) after spot ge
+        ∙ sym (none_at g old (place t t.x) before spot ge)
+  ]
+
+  like_kept : (whole kept : Whole)
+      → (kept o.name ≡ true → (whole o.name ≡ true)
+      × (survives flips spot.bank spot.column (place t t.x) (place t t.y) (place t t.z) ≡ true))
+      → Like (element_at g spot) whole (held g old (λ t. t.x) t) o
+      → Like (element_at g spot) whole (held g old (λ t. t.y) t) o
+      → Like (element_at g spot) whole (held g old (λ t. t.z) t) o
+      → Like (element_at g spot) kept (held g new (λ t. t.x) t) o
+  like_kept whole kept both x y z = record {
+    name = x.name;
+    width = x.width;
+    count = x.count;
+    numbers = (
+      columns_length g new (place t t.x) after ∙ sym (columns_length g old (place t t.x) before)
+          ∙ x.numbers.0,
+      λ e. let b = both e in
+          one_kept b.1 (y.numbers.1 b.0 ∙ sym (x.numbers.1 b.0))
+          (z.numbers.1 b.0 ∙ sym (x.numbers.1 b.0)) ∙ x.numbers.1 b.0,
+    );
+  }
+
+-- what is whole and survives
+abbrev pub Kept : List Flip → Spot → List Named → Whole → Whole
+Kept flips spot table whole name = whole name && survives_in flips spot table name
+
+pub named_case : (b s : Bool) → b ≡ true → (not b || s) ≡ true → s ≡ true
+named_case true s e h = h
+named_case false s e h = cc
+
+head_kept : (flips : List Flip) (spot : Spot) (t : Trio) (ts : List Trio) (whole : Whole)
+    (name : List ℕ) → t.name ≡ name
+    → Kept flips spot (table_of (spread (t ∷ ts))) whole name ≡ true
+    → (whole name ≡ true)
+    × (survives flips spot.bank spot.column (place t t.x) (place t t.y) (place t t.z) ≡ true)
+head_kept flips spot t ts whole name e h =
+    let a = and_both (whole name) (survives_in flips spot (table_of (spread (t ∷ ts))) name) h in
+    let is = bytes_eq (x_letter ∷ t.name) (x_letter ∷ name) in
+    let safe = survives flips spot.bank spot.column (place t t.x) (place t t.y) (place t t.z) in
+    let b = and_both (not is || safe) (survives_in flips spot (table_of (spread ts)) name) a.1 in (
+      a.0,
+      named_case is safe (bytes_same (x_letter ∷ t.name) (x_letter ∷ name)
+          (ap (λ n. x_letter ∷ n) e)) b.0,
+    )
+
+rest_kept : (flips : List Flip) (spot : Spot) (t : Trio) (ts : List Trio) (whole : Whole)
+    (name : List ℕ) → Kept flips spot (table_of (spread (t ∷ ts))) whole name ≡ true
+    → Kept flips spot (table_of (spread ts)) whole name ≡ true
+rest_kept flips spot t ts whole name h =
+    let a = and_both (whole name) (survives_in flips spot (table_of (spread (t ∷ ts))) name) h in
+    let is = bytes_eq (x_letter ∷ t.name) (x_letter ∷ name) in
+    let safe = survives flips spot.bank spot.column (place t t.x) (place t t.y) (place t t.z) in
+    let b = and_both (not is || safe) (survives_in flips spot (table_of (spread ts)) name) a.1 in
+    rw (a.0, b.1) refl
+
+pub all_kept : (g : Geometry) (flips : List Flip) (old new : Banks) (spot : Spot) (whole : Whole)
+    (ts : List Trio) (os : List Held) → spot.column < column_count g
+    → AllByRecursion (IsLong g old) ts → AllByRecursion (IsLong g new) ts
+    → AllByRecursion (AllBecomeMost g (all_flipped flips old) new) ts
+    → AllLike (element_at g spot) whole (map (held g old (λ t. t.x)) ts) os
+    → AllLike (element_at g spot) whole (map (held g old (λ t. t.y)) ts) os
+    → AllLike (element_at g spot) whole (map (held g old (λ t. t.z)) ts) os
+    → AllLike (element_at g spot) (Kept flips spot (table_of (spread ts)) whole)
+    (map (held g new (λ t. t.x)) ts) os
+all_kept g flips old new spot whole [] [] fits before after becomes x y z = tt
+all_kept g flips old new spot whole [] (o ∷ os) fits before after becomes x y z = absurd x
+all_kept g flips old new spot whole (t ∷ ts) [] fits before after becomes x y z = absurd x
+all_kept g flips old new spot whole (t ∷ ts) (o ∷ os) fits before after becomes x y z = (
+  like_kept g flips old new spot fits t o before.0 after.0 becomes.0 whole
+      (Kept flips spot (table_of (spread (t ∷ ts))) whole)
+      (head_kept flips spot t ts whole o.name x.0.name) x.0 y.0 z.0,
+  weaken (element_at g spot) (Kept flips spot (table_of (spread ts)) whole)
+      (Kept flips spot (table_of (spread (t ∷ ts))) whole) (map (held g new (λ t. t.x)) ts) os
+      (rest_kept flips spot t ts whole)
+      (all_kept g flips old new spot whole ts os fits before.1 after.1 becomes.1 x.1 y.1 z.1),
+)

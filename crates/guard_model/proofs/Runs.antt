@@ -15,7 +15,13 @@ use Rattle.machine_model.specs.Steps.{Held, table_of, worded, words_after, table
 use Rattle.machine_model.specs.Steps.{if_done, reply_by, counts_for}
 use Rattle.machine_model.specs.Script.{replies, words_at_end, table_at_end, plus, is_refused}
 use Rattle.machine_model.proofs.Scripts.{table_step}
-use Rattle.guard_model.specs.Guarded.{joined, done_ones, removal}
+use Rattle.guard_model.specs.Guarded.{joined, done_ones, plain_script, removal}
+
+-- the numbers after a guarded instruction, copies and all
+abbrev pub guarded_words : Geometry → Routines → (List ℕ → ℕ → List ℕ → List ℕ) → List Held
+    → Instruction → List Held
+guarded_words g operations meaning state instr =
+    words_at_end g operations meaning state (plain_script g operations (table_of state) instr)
 
 -- an instruction that is not refused is done
 pub if_none : {S : Type 0} (r : Option Why) (x y : S) → r ≡ None → if_done r x y ≡ x

@@ -1,7 +1,7 @@
 -- A state of triples as a list of guarded objects.
 use Rattle.std.proofs.Common.{◌≡◌, ◌≢◌, ℕ, suc, ◌+◌, ◌<◌, Bool, true, false, not, ◌&&◌, cond, eqb}
-use Rattle.std.proofs.Common.{List, [], ◌∷◌, length, get_or, map, drop, Option, Some, None, refl}
-use Rattle.std.proofs.Common.{sym, ap, arith}
+use Rattle.std.proofs.Common.{List, [], ◌∷◌, length, get_or, drop, Option, Some, None, refl}
+use Rattle.std.proofs.Common.{sym, arith}
 use Rattle.std.specs.List.{AllByRecursion, AllPairs}
 use Rattle.std.specs.Str.{bytes_eq}
 use Rattle.std.proofs.lemmas.Bool.Decides.{nat_tests}
@@ -13,7 +13,7 @@ use Rattle.machine_model.specs.Steps.{Held, table_of}
 use Rattle.machine_model.proofs.Places.{same_bytes, bytes_same}
 use Rattle.machine_model.proofs.Sliced.{has_from}
 use Rattle.guard_model.specs.Triples.{x_letter, y_letter, z_letter, is_first_name, is_first}
-use Rattle.guard_model.specs.Triples.{is_copy, stranger_from, EqualCopies, first_copies}
+use Rattle.guard_model.specs.Triples.{is_copy, stranger_from}
 use Rattle.guard_model.proofs.Votes.{RowsApart}
 
 -- a guarded object: where each copy begins, and the numbers of all three
@@ -40,13 +40,14 @@ spread (t ∷ ts) = copy x_letter t.x t ∷ copy y_letter t.y t ∷ copy z_lette
 abbrev pub alone : Trio → Held
 alone t = record { name = t.name; object = place t t.x; numbers = t.numbers }
 
-pub first_copies_are : (ts : List Trio) → first_copies (spread ts) ≡ map alone ts
-first_copies_are [] = refl
-first_copies_are (t ∷ ts) = ap (λ rest. alone t ∷ rest) (first_copies_are ts)
-
-pub spread_equal : (ts : List Trio) → EqualCopies (spread ts)
-spread_equal [] = tt
-spread_equal (t ∷ ts) = (refl, refl, spread_equal ts)
+-- a held object, wherever it lies
+abbrev pub unplaced : Held → Held
+unplaced h = record {
+  name = h.name;
+  object =
+      record { base = 0; width = h.object.width; count = h.object.count };
+  numbers = h.numbers;
+}
 
 abbrev pub HaveNames : List Trio → Type 0
 HaveNames ts = AllByRecursion (λ (t : Trio). fits_name t.name ≡ true) ts
@@ -91,7 +92,7 @@ first_name (letter ∷ name) h = let both = and_both (eqb letter x_letter) (fits
       and_both true b h = (refl, h)
       and_both false b h = cc
 
-equal_tested : (a b : ℕ) → eqb a b ≡ true → a ≡ b
+pub equal_tested : (a b : ℕ) → eqb a b ≡ true → a ≡ b
 equal_tested a b h = grind (arith, nat_tests)
 
 pub and_both : (a b : Bool) → (a && b) ≡ true → (a ≡ true) × (b ≡ true)
@@ -107,29 +108,42 @@ copy_is letter first p h =
     let b = and_both (eqb p.1.width first.1.width) (eqb p.1.count first.1.count) a.1 in
     (same_bytes _ _ a.0, equal_tested _ _ b.0, equal_tested _ _ b.1)
 
-held_same : (h : Held) (name : List ℕ) (w c : ℕ) (ns : List ℕ) → name ≡ h.name → w ≡ h.object.width
-    → c ≡ h.object.count → ns ≡ h.numbers
-    → record {
-      name = name;
-      object =
-          record { base = h.object.base; width = w; count = c };
-      numbers = ns;
-    } ≡ h
-held_same h name w c ns e f i j = rw (e, f, i, j) refl
+-- three objects are the copies of one
+pub record IsTriple (x y z : Named) : Type 0 where
+  pub first : x.0 ≡ x_letter ∷ drop 1 x.0
+  pub fits : fits_name (drop 1 x.0) ≡ true
+  pub second : (y.0 ≡ y_letter ∷ drop 1 x.0) × (y.1.width ≡ x.1.width) × (y.1.count ≡ x.1.count)
+  pub third : (z.0 ≡ z_letter ∷ drop 1 x.0) × (z.1.width ≡ x.1.width) × (z.1.count ≡ x.1.count)
 
-pub record IsSpread (state : List Held) : Type 0 where
-  pub trios : List Trio
-  pub spreads : spread trios ≡ state
-  pub named : HaveNames trios
+pub triple : (x y z : Named) (rest : List Named) (k : ℕ)
+    → stranger_from k (x ∷ y ∷ z ∷ rest) ≡ None
+    → IsTriple x y z × (stranger_from (k + 3) rest ≡ None)
+triple x y z rest k h =
+    let a = one_none (is_first x) k _ h in
+    let b = one_none (is_copy y_letter x y) (k + 1) _ a.1 in
+    let c = one_none (is_copy z_letter x z) (k + 2) _ b.1 in
+    let n = first_name x.0 a.0 in (
+      record {
+        first = n.0;
+        fits = n.1;
+        second = copy_is y_letter x y b.0;
+        third = copy_is z_letter x z c.0;
+      },
+      c.1,
+    )
 
 three : {X : Type 0} (a b c x y z : X) (r s : List X) → a ≡ x → b ≡ y → c ≡ z → r ≡ s → a ∷ b ∷ c
     ∷ r ≡ x ∷ y ∷ z ∷ s
 three a b c x y z r s e f g h = rw (e, f, g, h) refl
 
-abbrev entry : Held → Named
+abbrev pub entry : Held → Named
 entry h = (h.name, h.object)
 
-abbrev trio_of : Held → Held → Held → Trio
+entry_same : (p : Named) (name : List ℕ) (w c : ℕ) → name ≡ p.0 → w ≡ p.1.width → c ≡ p.1.count
+    → (name, record { base = p.1.base; width = w; count = c }) ≡ p
+entry_same p name w c e f i = rw (e, f, i) refl
+
+abbrev pub trio_of : Held → Held → Held → Trio
 trio_of x y z = record {
   name = drop 1 x.name;
   x = x.object.base;
@@ -141,32 +155,29 @@ trio_of x y z = record {
   numbers = x.numbers;
 }
 
--- a table without a stranger, and equal copies
-pub spread_of : (state : List Held) (k : ℕ) → stranger_from k (table_of state) ≡ None
-    → EqualCopies state → IsSpread state
-spread_of [] k h e = record { trios = []; spreads = refl; named = tt }
-spread_of (x ∷ []) k h e = cc
-spread_of (x ∷ y ∷ []) k h e = cc
-spread_of (x ∷ y ∷ z ∷ rest) k h e =
-    let a = one_none (is_first (entry x)) k _ h in
-    let b = one_none (is_copy y_letter (entry x) (entry y)) (k + 1) _ a.1 in
-    let c = one_none (is_copy z_letter (entry x) (entry z)) (k + 2) _ b.1 in
-    let more = spread_of rest (k + 3) c.1 e.2 in
-    let n = first_name x.name a.0 in
-    let p = copy_is y_letter (entry x) (entry y) b.0 in
-    let q = copy_is z_letter (entry x) (entry z) c.0 in
-    record {
-      trios = trio_of x y z ∷ more.trios;
-      spreads = three _ _ _ x y z _ rest
-          (held_same x (x_letter ∷ drop 1 x.name) x.object.width x.object.count x.numbers
-          (sym n.0) refl refl refl)
-          (held_same y (y_letter ∷ drop 1 x.name) x.object.width x.object.count x.numbers (sym p.0)
-          (sym p.1) (sym p.2) (sym e.0))
-          (held_same z (z_letter ∷ drop 1 x.name) x.object.width x.object.count x.numbers (sym q.0)
-          (sym q.1) (sym q.2) (sym e.1))
-          more.spreads;
-      named = (n.1, more.named);
-    }
+abbrev pub trios_of : List Held → List Trio
+trios_of (x ∷ y ∷ z ∷ rest) = trio_of x y z ∷ trios_of rest
+trios_of state = []
+
+-- a table without a stranger is that of trios
+pub trios_spread : (state : List Held) (k : ℕ) → stranger_from k (table_of state) ≡ None
+    → (table_of (spread (trios_of state)) ≡ table_of state) × HaveNames (trios_of state)
+trios_spread [] k h = (refl, tt)
+trios_spread (x ∷ []) k h = cc
+trios_spread (x ∷ y ∷ []) k h = cc
+trios_spread (x ∷ y ∷ z ∷ rest) k h =
+    let t = triple (entry x) (entry y) (entry z) (table_of rest) k h in
+    let more = trios_spread rest (k + 3) t.1 in (
+      three _ _ _ (entry x) (entry y) (entry z) _ (table_of rest)
+          (entry_same (entry x) (x_letter ∷ drop 1 x.name) x.object.width x.object.count
+          (sym t.0.first) refl refl)
+          (entry_same (entry y) (y_letter ∷ drop 1 x.name) x.object.width x.object.count
+          (sym t.0.second.0) (sym t.0.second.1) (sym t.0.second.2))
+          (entry_same (entry z) (z_letter ∷ drop 1 x.name) x.object.width x.object.count
+          (sym t.0.third.0) (sym t.0.third.1) (sym t.0.third.2))
+          more.0,
+      (t.0.fits, more.1),
+    )
 
 -- No row is in two copies
 abbrev pub Clear : Object → Object → Type 0

@@ -1,16 +1,14 @@
 -- What a vote does to a column.
 use Rattle.std.proofs.Common.{◌≡◌, ◌≢◌, ℕ, zero, suc, ◌+◌, ◌<◌, ◌≤◌, Bool, true, false, cond, eqb}
-use Rattle.std.proofs.Common.{refl, sym, ◌∙◌, ap, subst, arith, inl, inr}
+use Rattle.std.proofs.Common.{not, refl, sym, ◌∙◌, ap, subst, arith, inl, inr}
 use Rattle.std.proofs.lemmas.Bool.{cases_lt, ne_eqb}
 use Rattle.std.proofs.lemmas.Bool.Decides.{nat_tests}
 use Rattle.dram_model.specs.declared.address.Cell.TheVariants.{D}
 use Rattle.bit_rows.specs.Bits.{majority}
 use Rattle.dram_model.specs.Column.{Column, run}
-use Rattle.dram_model.specs.Elements.{number}
 use Rattle.dram_model.proofs.ColumnLaws.{after-run, run-append}
 use Rattle.guard_model.specs.Votes.{row_vote, votes}
 use Rattle.guard_model.specs.Laws.{RowVote}
-use Rattle.guard_model.proofs.Numbers.{bits_of_number, number_of_bits}
 
 -- the majority of three rows
 abbrev pub most : Column → ℕ → ℕ → ℕ → Bool
@@ -110,12 +108,6 @@ votes_own s x y z a (suc n) w k d le l m =
           subst (λ j. Voted (run (votes x y z a (suc n)) s) s x y z j) (sym e) at_a
     ]
 
--- at least two of the three are this
-pub data Two {X : Type 0} (v a b c : X) : Type 0 where
-  first_two : a ≡ v → b ≡ v → Two v a b c
-  outer_two : a ≡ v → c ≡ v → Two v a b c
-  last_two : b ≡ v → c ≡ v → Two v a b c
-
 majority_ab : (a b c : Bool) → a ≡ b → majority a b c ≡ a
 unfolding majority
 majority_ab true true true e = refl
@@ -149,41 +141,18 @@ majority_bc false true false e = cc
 majority_bc false false true e = cc
 majority_bc false false false e = refl
 
--- where the majority is what stands at one base, all three numbers become its number
-all_three : (s : Column) (x y z w base : ℕ) → RowsApart x y z w
-    → ((k : ℕ) → k < w → most s (x + k) (y + k) (z + k) ≡ s (D (base + k)))
-    → (number x w (run (votes x y z 0 w) s) ≡ number base w s)
-    × (number y w (run (votes x y z 0 w) s) ≡ number base w s)
-    × (number z w (run (votes x y z 0 w) s) ≡ number base w s)
-all_three s x y z w base d is = (
-  number_of_bits x base w (run (votes x y z 0 w) s) s
-      (λ k l. (votes_own s x y z 0 w w k d (omega arith) (omega arith) (omega arith)).0 ∙ is k l),
-  number_of_bits y base w (run (votes x y z 0 w) s) s
-      (λ k l. (votes_own s x y z 0 w w k d (omega arith) (omega arith) (omega arith)).1 ∙ is k l),
-  number_of_bits z base w (run (votes x y z 0 w) s) s
-      (λ k l. (votes_own s x y z 0 w w k d (omega arith) (omega arith) (omega arith)).2 ∙ is k l),
-)
-
--- where two of the numbers are v, the vote makes all three v
-pub vote_mends : (s : Column) (x y z w v : ℕ) → RowsApart x y z w → Two v (number x w s)
-    (number y w s) (number z w s)
-    → (number x w (run (votes x y z 0 w) s) ≡ v) × (number y w (run (votes x y z 0 w) s) ≡ v)
-    × (number z w (run (votes x y z 0 w) s) ≡ v)
-vote_mends s x y z w v d (first_two a b) =
-    let r = all_three s x y z w x d
-    (λ k l. majority_ab (s (D (x + k))) (s (D (y + k))) (s (D (z + k)))
-    (bits_of_number x y w k s s (a ∙ sym b) l)) in
-    (r.0 ∙ a, r.1 ∙ a, r.2 ∙ a)
-vote_mends s x y z w v d (outer_two a b) =
-    let r = all_three s x y z w x d
-    (λ k l. majority_ac (s (D (x + k))) (s (D (y + k))) (s (D (z + k)))
-    (bits_of_number x z w k s s (a ∙ sym b) l)) in
-    (r.0 ∙ a, r.1 ∙ a, r.2 ∙ a)
-vote_mends s x y z w v d (last_two a b) =
-    let r = all_three s x y z w y d
-    (λ k l. majority_bc (s (D (x + k))) (s (D (y + k))) (s (D (z + k)))
-    (bits_of_number y z w k s s (a ∙ sym b) l)) in
-    (r.0 ∙ a, r.1 ∙ a, r.2 ∙ a)
+-- where at most one of three tests holds, and the bits of the others are v, the majority is v
+pub most_of : (v p q r a b c : Bool) → not (majority a b c) ≡ true → (a ≡ false → p ≡ v)
+    → (b ≡ false → q ≡ v) → (c ≡ false → r ≡ v) → majority p q r ≡ v
+unfolding majority
+most_of v p q r true true c h e f g = cc
+most_of v p q r true false true h e f g = cc
+most_of v p q r true false false h e f g =
+    majority_bc p q r (f refl ∙ sym (g refl)) ∙ f refl
+most_of v p q r false true true h e f g = cc
+most_of v p q r false true false h e f g =
+    majority_ac p q r (e refl ∙ sym (g refl)) ∙ e refl
+most_of v p q r false false c h e f g = majority_ab p q r (e refl ∙ sym (f refl)) ∙ e refl
 
 pub row_votes : RowVote
 row_votes s x y z = (vote_x s x y z, vote_y s x y z, vote_z s x y z, λ r. vote_other s x y z r)

@@ -1,20 +1,18 @@
 -- A worked row of the definitions: a guarded object of four elements and width 2 is made, loaded
 -- and printed.
-use Rattle.std.proofs.Common.{◌≡◌, ◌<◌, ℕ, zero, suc, true, false, List, [], ◌∷◌, None, refl, arith}
+use Rattle.std.proofs.Common.{◌≡◌, ℕ, Bool, true, false, List, [], ◌∷◌, None, refl}
 use Rattle.dram_model.specs.declared.geometry.Geometry.{Geometry}
 use Rattle.dram_model.specs.declared.dram.Counters.{Counters}
-use Rattle.object_alloc.specs.declared.table.Object.{Object}
 use Rattle.object_alloc.specs.Free.{free}
 use Rattle.bbop_isa.specs.Forms.{Instruction, Init, Load, Print, whole}
 use Rattle.machine_model.specs.Routines.{Routines}
 use Rattle.guard_model.specs.declared.Flip.{Flip}
-use Rattle.guard_model.specs.Flips.{is_hit, AtMostOne}
 use Rattle.bit_rows.specs.Bits.{majority}
 use Rattle.dram_model.specs.Chip.{blank_banks}
 use Rattle.machine_model.specs.declared.Reply.TheVariants.{Done}
 use Rattle.machine_model.specs.Report.{Said}
-use Rattle.guard_model.specs.Guarded.{votes_at_end, guarded_tally, guarded_said_in_words}
-use Rattle.guard_model.specs.Guarded.{guarded_said_in_rows}
+use Rattle.guard_model.specs.Guarded.{votes_at_end, guarded_tally, guarded_said_in_rows}
+use Rattle.guard_model.specs.Survival.{Spot, whole_at_end}
 
 abbrev small : Geometry
 small = record { banks = 1; rows = 64; words = 1 }
@@ -42,16 +40,8 @@ tally_row : guarded_tally small none [] script (flip ∷ []) opened
 unfolding free
 tally_row = refl
 
-abbrev no_meaning : List ℕ → ℕ → List ℕ → List ℕ
-no_meaning op n values = []
-
 abbrev counted : ℕ → Said
 counted aap = Said.Answered (Done (record { aap = aap; ap = 0 }))
-
-said_row : guarded_said_in_words small none no_meaning [] script ≡ counted 6 ∷ counted 0
-    ∷ Said.Printed (97 ∷ []) (0 ∷ 1 ∷ 2 ∷ 3 ∷ []) ∷ []
-unfolding free
-said_row = refl
 
 -- one copy is hit, and then two
 mended_row : guarded_said_in_rows small none (flip ∷ []) 1 [] (blank_banks small) script ≡ counted 6
@@ -65,29 +55,36 @@ lost_row : guarded_said_in_rows small none (flip ∷ record flip { row = 2 } ∷
 unfolding free majority
 lost_row = refl
 
--- copies of one segment, and flips in the rows of two of them in a bank in which they have none
-abbrev copy : ℕ → Object
-copy base = record { base = base; width = 2; count = 4 }
+-- which elements of the object are whole at the end
+abbrev element : ℕ → Spot
+element column = record { bank = 0; column = column }
 
-abbrev following : List Flip
-following = record { before = 3; bank = 1; row = 0; column = 1 } ∷ record {
-  before = 3;
-  bank = 1;
-  row = 2;
-  column = 1;
-} ∷ []
+abbrev is_whole : List Flip → ℕ → Bool
+is_whole flips column =
+    whole_at_end small none flips 1 (element column) [] (λ name. true) script (97 ∷ [])
 
-first_bank : (bank column : ℕ) → bank < 1 → majority (is_hit following (copy 0) bank column)
-    (is_hit following (copy 2) bank column) (is_hit following (copy 4) bank column) ≡ false
-unfolding majority
-first_bank zero column l = refl
-first_bank (suc bank) column l = absurd (omega arith)
+-- one cell of it is hit in two copies; the element beside it is whole
+lost_element : is_whole (flip ∷ record flip { row = 2 } ∷ []) 1 ≡ false
+unfolding free majority
+lost_element = refl
 
-in_rows : majority (is_hit following (copy 0) 1 1) (is_hit following (copy 2) 1 1)
-    (is_hit following (copy 4) 1 1) ≡ true
-unfolding majority
-in_rows = refl
+beside_row : is_whole (flip ∷ record flip { row = 2 } ∷ []) 2 ≡ true
+unfolding free majority
+beside_row = refl
 
-after_row : AtMostOne (record small { banks = 2 }) following ((120 ∷ 97 ∷ [], copy 0)
-    ∷ (121 ∷ 97 ∷ [], copy 2) ∷ (122 ∷ 97 ∷ [], copy 4) ∷ [])
-after_row = (λ bank column l. first_bank bank column l, tt)
+-- two cells of it are hit, each in another copy
+rows_differ : is_whole (flip ∷ record flip { row = 3 } ∷ []) 1 ≡ true
+unfolding free majority
+rows_differ = refl
+
+mended_rows : guarded_said_in_rows small none (flip ∷ record flip { row = 3 } ∷ []) 1 []
+    (blank_banks small) script ≡ counted 6 ∷ counted 0
+    ∷ Said.Printed (97 ∷ []) (0 ∷ 1 ∷ 2 ∷ 3 ∷ []) ∷ []
+unfolding free majority
+mended_rows = refl
+
+-- a column past the object's four elements is hit in two copies
+past_count : is_whole (record flip { column = 4 } ∷ record flip { row = 2; column = 4 } ∷ []) 1
+    ≡ true
+unfolding free majority
+past_count = refl

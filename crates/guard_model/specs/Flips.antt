@@ -1,16 +1,12 @@
 -- Damage: cells that are inverted.
-use Rattle.std.specs.Prelude.{◌≡◌, ℕ, zero, suc, ◌==◌, Bool, false, not, ◌&&◌, if◌then◌else◌, List}
-use Rattle.std.specs.Prelude.{[], ◌∷◌, filter, ◌<◌}
-use Rattle.std.specs.List.{list_any}
+use Rattle.std.specs.Prelude.{ℕ, zero, suc, ◌+◌, ◌==◌, Bool, not, ◌&&◌, if◌then◌else◌, List, []}
+use Rattle.std.specs.Prelude.{◌∷◌, filter}
+use Rattle.std.specs.List.{list_all, list_any, range_with_len}
 use Rattle.bit_rows.specs.Bits.{majority}
 use Rattle.dram_model.specs.declared.address.Cell.TheVariants.{D}
-use Rattle.dram_model.specs.declared.geometry.Geometry.{Geometry}
 use Rattle.dram_model.specs.Column.{Column, drive, plain}
 use Rattle.dram_model.specs.Chip.{Banks}
 use Rattle.object_alloc.specs.declared.table.Object.{Object}
-use Rattle.object_alloc.specs.Free.{has_row}
-use Rattle.object_alloc.specs.Listed.{Named}
-use Rattle.machine_model.specs.Columns.{segments}
 use Rattle.guard_model.specs.declared.Flip.{Flip}
 
 -- the data row's cell of one column is inverted
@@ -43,18 +39,17 @@ all_flipped (f ∷ flips) banks = all_flipped flips (flipped f banks)
 abbrev pub due : ℕ → List Flip → List Flip
 due k flips = filter (λ f. f.before == k) flips
 
--- a flip hits a row of the object in this column
-abbrev pub hits : Object → ℕ → ℕ → Flip → Bool
-hits o bank column f = (f.bank == bank) && ((f.column == column) && has_row o f.row)
+-- a flip hits the cell of this row, in a column of a bank
+abbrev pub hits : ℕ → ℕ → ℕ → Flip → Bool
+hits bank column row f = (f.bank == bank) && ((f.column == column) && (f.row == row))
 
--- some flip hits a row of the object in this column
-abbrev pub is_hit : List Flip → Object → ℕ → ℕ → Bool
-is_hit flips o bank column = list_any (hits o bank column) flips
+-- some flip hits it
+abbrev pub is_hit : List Flip → ℕ → ℕ → ℕ → Bool
+is_hit flips bank column row = list_any (hits bank column row) flips
 
--- in each column of each bank that has a segment of an object, at most one of its three copies is
--- hit
-abbrev pub AtMostOne : Geometry → List Flip → List Named → Type 0
-AtMostOne g flips (x ∷ y ∷ z ∷ rest) =
-    ((bank column : ℕ) → bank < segments g x.1 → majority (is_hit flips x.1 bank column)
-    (is_hit flips y.1 bank column) (is_hit flips z.1 bank column) ≡ false) × AtMostOne g flips rest
-AtMostOne g flips table = Unit {0}
+-- the element that three copies have in a column of a bank survives: of each of its cells at most
+-- one of the three is hit
+abbrev pub survives : List Flip → ℕ → ℕ → Object → Object → Object → Bool
+survives flips bank column x y z = list_all (λ k. not (majority
+    (is_hit flips bank column (x.base + k)) (is_hit flips bank column (y.base + k))
+    (is_hit flips bank column (z.base + k)))) (range_with_len 0 x.width)

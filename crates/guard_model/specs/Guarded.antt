@@ -16,15 +16,15 @@ use Rattle.machine_model.specs.declared.Reply.TheVariants.{Done, Refused}
 use Rattle.machine_model.specs.Columns.{columns}
 use Rattle.machine_model.specs.Routines.{Routines}
 use Rattle.machine_model.specs.Refusals.{refusal, rows_of}
-use Rattle.machine_model.specs.Steps.{Held, table_of, numbers_at, worded, table_after, if_done}
-use Rattle.machine_model.specs.Script.{replies, table_at_end, words_at_end, banks_at_end, plus}
+use Rattle.machine_model.specs.Steps.{Held, worded, table_after, if_done}
+use Rattle.machine_model.specs.Script.{replies, table_at_end, banks_at_end, plus}
 use Rattle.machine_model.specs.Script.{is_refused, sum_done, rows_printed, counters_at_end}
 use Rattle.machine_model.specs.Script.{with_counts, with_writes}
 use Rattle.machine_model.specs.Pieces.{Piece, piece_of, events_of_pieces, turn_at_end}
 use Rattle.machine_model.specs.Report.{Said, said_of}
 use Rattle.guard_model.specs.declared.Flip.{Flip}
 use Rattle.guard_model.specs.Triples.{x_letter, y_letter, z_letter}
-use Rattle.guard_model.specs.Flips.{due, all_flipped, AtMostOne}
+use Rattle.guard_model.specs.Flips.{due, all_flipped}
 use Rattle.guard_model.specs.Votes.{voted, vote_count}
 
 -- the same part of the copy under one letter
@@ -107,12 +107,6 @@ abbrev pub guarded_table : Geometry → Routines → List Named → Instruction 
 guarded_table g operations table instr =
     table_at_end g operations table (plain_script g operations table instr)
 
--- the numbers after a guarded instruction, copies and all
-abbrev pub guarded_words : Geometry → Routines → (List ℕ → ℕ → List ℕ → List ℕ) → List Held
-    → Instruction → List Held
-guarded_words g operations meaning state instr =
-    words_at_end g operations meaning state (plain_script g operations (table_of state) instr)
-
 -- the banks after a guarded instruction
 abbrev pub guarded_rows : Geometry → Routines → List Named → Banks → Instruction → Banks
 guarded_rows g operations table banks instr =
@@ -137,16 +131,11 @@ abbrev pub guarded_reads : Geometry → Routines → List Named → Instruction 
 guarded_reads g operations table instr =
     sum_done rows_printed g operations table (plain_script g operations table instr)
 
--- what is said of a guarded instruction, where the values of the first copies are these
-abbrev pub guarded_said : Geometry → Routines → List Named → (Place → List ℕ) → Instruction → Said
-guarded_said g operations table values instr =
-    said_of (guarded_reply g operations table instr) instr (λ place.
-    take (rows_of table (place_on x_letter place)).count (values (place_on x_letter place)))
-
--- what is said of a guarded instruction, where the values are read from the banks' columns
+-- what is said of a guarded instruction: of a print the values in the first copy's columns
 abbrev pub guarded_said_by : Geometry → Routines → List Named → Banks → Instruction → Said
 guarded_said_by g operations table banks instr =
-    guarded_said g operations table (λ place. columns g banks (rows_of table place)) instr
+    said_of (guarded_reply g operations table instr) instr (λ place.
+    let o = rows_of table (place_on x_letter place) in take o.count (columns g banks o))
 
 -- the flips of k, and then the votes
 abbrev pub mended : Geometry → List Flip → ℕ → List Named → Banks → Banks
@@ -192,14 +181,6 @@ guarded_tally g operations table script flips k =
     with_reads (sum_done rows_printed g operations table plain + length flips)
     (with_writes (length flips) (with_counts (counters_at_end g operations table plain k) votes))
 
--- the numbers after a guarded script, without flips and votes
-abbrev pub guarded_words_at_end : Geometry → Routines → (List ℕ → ℕ → List ℕ → List ℕ)
-    → List Held → List Instruction → List Held
-guarded_words_at_end g operations meaning state [] = state
-guarded_words_at_end g operations meaning state (instr ∷ script) =
-    guarded_words_at_end g operations meaning (guarded_words g operations meaning state instr)
-    script
-
 -- the banks after a guarded script: for each instruction the flips, the votes and its own commands,
 -- and after the last the flips and votes once more
 abbrev pub guarded_rows_at_end : Geometry → Routines → List Flip → ℕ → List Named → Banks
@@ -208,23 +189,6 @@ guarded_rows_at_end g operations flips k table banks [] = mended g flips k table
 guarded_rows_at_end g operations flips k table banks (instr ∷ script) =
     guarded_rows_at_end g operations flips (k + 1) (guarded_table g operations table instr)
     (guarded_rows g operations table (mended g flips k table banks) instr) script
-
--- between two votes the flips hit at most one copy in each column of its segments
-abbrev pub Single : Geometry → Routines → List Flip → ℕ → List Named → List Instruction
-    → Type 0
-Single g operations flips k table [] = AtMostOne g (due k flips) table
-Single g operations flips k table (instr ∷ script) =
-    AtMostOne g (due k flips) table
-    × Single g operations flips (k + 1) (guarded_table g operations table instr) script
-
--- what the guarded word machine says of a script
-abbrev pub guarded_said_in_words : Geometry → Routines → (List ℕ → ℕ → List ℕ → List ℕ)
-    → List Held → List Instruction → List Said
-guarded_said_in_words g operations meaning state [] = []
-guarded_said_in_words g operations meaning state (instr ∷ script) =
-    guarded_said g operations (table_of state) (numbers_at state) instr
-    ∷ guarded_said_in_words g operations meaning (guarded_words g operations meaning state instr)
-    script
 
 -- what is said of a guarded script, where the values are read from the banks' columns
 abbrev pub guarded_said_in_rows : Geometry → Routines → List Flip → ℕ → List Named → Banks
@@ -236,11 +200,17 @@ guarded_said_in_rows g operations flips k table banks (instr ∷ script) =
     ∷ guarded_said_in_rows g operations flips (k + 1) (guarded_table g operations table instr)
     (guarded_rows g operations table now instr) script
 
--- the word machine on one copy, where these are the replies
+-- the word machine on one copy, for an instruction of a guarded run with this table of copies
+abbrev pub lone_words : Geometry → Routines → (List ℕ → ℕ → List ℕ → List ℕ) → List Named
+    → List Held → Instruction → List Held
+lone_words g operations meaning table state instr =
+    if is_refused (guarded_reply g operations table instr) then state
+    else worded g operations meaning state instr
+
+-- and for a script
 abbrev pub lone_words_at_end : Geometry → Routines → (List ℕ → ℕ → List ℕ → List ℕ)
-    → List Held → List Reply → List Instruction → List Held
-lone_words_at_end g operations meaning state [] script = state
-lone_words_at_end g operations meaning state (reply ∷ rest) [] = state
-lone_words_at_end g operations meaning state (reply ∷ rest) (instr ∷ script) =
-    lone_words_at_end g operations meaning
-    (if is_refused reply then state else worded g operations meaning state instr) rest script
+    → List Named → List Held → List Instruction → List Held
+lone_words_at_end g operations meaning table state [] = state
+lone_words_at_end g operations meaning table state (instr ∷ script) =
+    lone_words_at_end g operations meaning (guarded_table g operations table instr)
+    (lone_words g operations meaning table state instr) script

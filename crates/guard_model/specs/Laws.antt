@@ -1,5 +1,5 @@
 -- Laws of guarded scripts.
-use Rattle.std.specs.Prelude.{◌≡◌, ◌≢◌, ◌↔◌, ℕ, ◌+◌, ◌<◌, List, [], map, None, true, false, ◌⊎◌}
+use Rattle.std.specs.Prelude.{◌≡◌, ◌≢◌, ◌↔◌, ℕ, ◌+◌, ◌<◌, List, [], None, true, false, ◌⊎◌}
 use Rattle.std.specs.Prelude.{◌++◌, Ok, Some}
 use Rattle.std.specs.List.{AllByRecursion}
 use Rattle.dram_model.specs.declared.geometry.Geometry.{Geometry}
@@ -9,6 +9,7 @@ use Rattle.dram_model.specs.Column.{Column, run}
 use Rattle.dram_model.specs.Chip.{Banks, after, happens, row_in, all_counted}
 use Rattle.dram_model.specs.Chip.Event.{Write}
 use Rattle.dram_model.specs.declared.dram.Counters.{Counters}
+use Rattle.dram_model.specs.Elements.{column_count}
 use Rattle.object_alloc.specs.Listed.{Named}
 use Rattle.bbop_isa.specs.Forms.{Instruction}
 use Rattle.bbop_isa.specs.Forms.{Init, Bbop, Load, Fill, Print, Free, Order}
@@ -24,16 +25,16 @@ use Rattle.machine_model.specs.Agrees.{Agrees, DoesAll, IsPlain}
 use Rattle.machine_model.specs.Laws.{FitsBanks}
 use Rattle.machine_model.specs.Script.{is_refused, counters_at_end}
 use Rattle.guard_model.specs.declared.Flip.{Flip}
-use Rattle.guard_model.specs.Triples.{first_stranger, EqualCopies, first_copies, unplaced}
+use Rattle.guard_model.specs.Triples.{first_stranger, first_copies}
 use Rattle.guard_model.specs.Triples.{IsTripled, IsLongestFront}
-use Rattle.guard_model.specs.Flips.{AtMostOne, due, flipped, with_bit_inverted}
+use Rattle.guard_model.specs.Flips.{due, flipped, with_bit_inverted}
 use Rattle.guard_model.specs.FlipText.{flips_of, IsFlip, AreSorted}
 use Rattle.guard_model.specs.Votes.{row_vote, voted, vote_events, vote_count}
-use Rattle.guard_model.specs.Guarded.{adds, plain_ones, plain_script, guarded_reply, Single, mended}
+use Rattle.guard_model.specs.Guarded.{adds, plain_ones, plain_script, guarded_reply}
 use Rattle.guard_model.specs.Guarded.{guarded_table, guarded_table_at_end, guarded_rows_at_end}
-use Rattle.guard_model.specs.Guarded.{guarded_words_at_end, guarded_replies, guarded_events}
-use Rattle.guard_model.specs.Guarded.{guarded_rows, guarded_said_in_rows, guarded_said_in_words}
-use Rattle.guard_model.specs.Guarded.{lone_words_at_end}
+use Rattle.guard_model.specs.Guarded.{guarded_events, guarded_rows, lone_words_at_end}
+use Rattle.guard_model.specs.Survival.{AllPrintWhole, HoldsWhole, Spot, Whole, whole_at_end}
+use Rattle.guard_model.specs.Survival.{whole_first}
 
 -- the vote of three rows gives each of them their majority, and leaves every other data row
 abbrev pub RowVote : Type 0
@@ -121,35 +122,20 @@ AllOrNone =
     → (plain_script g operations table instr ≡ plain_ones instr)
     ⊎ (plain_script g operations table instr ≡ [])
 
--- Where the copies are equal and at most one of each is hit in a column of its segments, the votes
--- leave each number as it was before the flips
-abbrev pub VotesMend : Type 0
-VotesMend =
-    (g : Geometry) (flips : List Flip) (k : ℕ) (banks : Banks) (state : List Held)
-    → first_stranger (table_of state) ≡ None → EqualCopies state → Agrees g banks state
-    → AtMostOne g (due k flips) (table_of state)
-    → Agrees g (mended g flips k (table_of state) banks) state
-
--- what a guarded run comes to: the banks hold what the guarded word machine holds without flips
--- and votes, the copies are equal, the values printed are its values, and each copy holds what the
--- word machine holds of one
+-- what a guarded run comes to at one spot, beside the word machine on these objects alone: at the
+-- end the copies have the numbers of its whole elements, and so does what is printed
 pub record IsGuarded (g : Geometry) (operations : Routines)
-    (meaning : List ℕ → ℕ → List ℕ → List ℕ) (flips : List Flip) (k : ℕ) (banks : Banks)
-    (state : List Held) (script : List Instruction) : Type 0 where
-  pub agrees : Agrees g (guarded_rows_at_end g operations flips k (table_of state) banks script)
-      (guarded_words_at_end g operations meaning state script)
-  pub table : table_of (guarded_words_at_end g operations meaning state script)
-      ≡ guarded_table_at_end g operations (table_of state) script
-  pub triples : first_stranger (guarded_table_at_end g operations (table_of state) script) ≡ None
-  pub equal : EqualCopies (guarded_words_at_end g operations meaning state script)
-  pub said : guarded_said_in_rows g operations flips k (table_of state) banks script
-      ≡ guarded_said_in_words g operations meaning state script
-  pub alone : map unplaced (first_copies (guarded_words_at_end g operations meaning state script))
-      ≡ map unplaced (lone_words_at_end g operations meaning (first_copies state)
-      (guarded_replies g operations (table_of state) script) script)
+    (meaning : List ℕ → ℕ → List ℕ → List ℕ) (flips : List Flip) (k : ℕ) (spot : Spot)
+    (whole : Whole) (table : List Named) (banks : Banks) (lone : List Held)
+    (script : List Instruction) : Type 0 where
+  pub holds : HoldsWhole g (guarded_rows_at_end g operations flips k table banks script) spot
+      (whole_at_end g operations flips k spot table whole script)
+      (guarded_table_at_end g operations table script)
+      (lone_words_at_end g operations meaning table lone script)
+  pub prints : AllPrintWhole g operations meaning flips k spot whole table banks lone script
 
--- Where each operation does what it means, a guarded run whose flips hit one copy at most between
--- two votes ends as the word machine without flips
+-- Where each operation does what it means, a guarded run has at each spot the numbers of the word
+-- machine on the first copies, wherever the elements are whole
 abbrev pub GuardedGivesWords : Type 0
 GuardedGivesWords =
     (g : Geometry) (operations : Routines) (meaning : List ℕ → ℕ → List ℕ → List ℕ)
@@ -157,21 +143,21 @@ GuardedGivesWords =
     → 0 < g.words → DoesAll operations meaning → AllByRecursion IsPlain script
     → AllByRecursion HasName script
     → (banks : Banks) (state : List Held) → Agrees g banks state
-    → first_stranger (table_of state) ≡ None → EqualCopies state
-    → Single g operations flips k (table_of state) script
-    → IsGuarded g operations meaning flips k banks state script
+    → first_stranger (table_of state) ≡ None
+    → (spot : Spot) → spot.column < column_count g
+    → IsGuarded g operations meaning flips k spot (whole_first g spot state) (table_of state) banks
+    (first_copies state) script
 
--- a guarded run of a program that does a text, on a chip that was opened on an image, ends as the
--- word machine without flips, where they hit one copy at most between two votes
+-- so has a guarded run of a program that does a text, on a chip that was opened on an image
 abbrev pub GuardedTextGivesWords : Type 0
 GuardedTextGivesWords =
     (p : Program) (t : List TextOp) (i : Image) (flips : List Flip) (script : List Instruction)
     → IsImage i.geometry i.table i.rows → ImplementsAll p t → AllByRecursion IsPlain script
-    → AllByRecursion HasName script
-    → first_stranger i.table ≡ None → EqualCopies (objects_held i)
-    → Single i.geometry (routines_of t p) flips 1 i.table script
-    → IsGuarded i.geometry (routines_of t p) (meaning_in t) flips 1 (opened i) (objects_held i)
-    script
+    → AllByRecursion HasName script → first_stranger i.table ≡ None
+    → (spot : Spot) → spot.column < column_count i.geometry
+    → IsGuarded i.geometry (routines_of t p) (meaning_in t) flips 1 spot
+    (whole_first i.geometry spot (objects_held i)) i.table (opened i)
+    (first_copies (objects_held i)) script
 
 -- the flips of a text are flips of the chip, in order
 abbrev pub FlipsAreRight : Type 0

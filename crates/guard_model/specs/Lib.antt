@@ -4,6 +4,7 @@ pub mod Triples
 pub mod Flips
 pub mod Votes
 pub mod Guarded
+pub mod Survival
 pub mod Report
 pub mod FlipText
 pub mod Laws

@@ -95,23 +95,8 @@ pub record IsLongestFront (table : List Named) (k : ℕ) : Type 0 where
   pub begins : BeginsTripled (take k table)
   pub longest : (n : ℕ) → n ≤ length table → BeginsTripled (take n table) → n ≤ k
 
--- the three copies of each object have the same numbers
-abbrev pub EqualCopies : List Held → Type 0
-EqualCopies (x ∷ y ∷ z ∷ rest) = (y.numbers ≡ x.numbers) × (z.numbers ≡ x.numbers)
-    × EqualCopies rest
-EqualCopies state = Unit {0}
-
 -- the first copies, under the guarded names
 abbrev pub first_copies : List Held → List Held
 first_copies (x ∷ y ∷ z ∷ rest) =
     record { name = drop 1 x.name; object = x.object; numbers = x.numbers } ∷ first_copies rest
 first_copies state = []
-
--- a held object, wherever it lies
-abbrev pub unplaced : Held → Held
-unplaced h = record {
-  name = h.name;
-  object =
-      record { base = 0; width = h.object.width; count = h.object.count };
-  numbers = h.numbers;
-}

@@ -8,7 +8,7 @@ ghost use Rattle.guard_model.specs.Laws.{FlipsAreRight};
 ghost use Rattle.guard_model.specs.Laws.{GuardedGivesWords, GuardedTextGivesWords, RefusedStays};
 ghost use Rattle.guard_model.specs.Laws.{RowVote, StepIsCounted, StepIsEvents, StrangersAreFirst};
 ghost use Rattle.guard_model.specs.Laws.{TriplesKept};
-ghost use Rattle.guard_model.specs.Laws.{VoteIsCounted, VoteIsEvents, VotesMend};
+ghost use Rattle.guard_model.specs.Laws.{VoteIsCounted, VoteIsEvents};
 
 /// One cell that is inverted before an instruction, whose number counts from 1.
 #[derive(Clone, Copy, PartialEq, Eq)]
@@ -85,11 +85,10 @@ pub fn guarded_steps_are_events()
     ensures counted { StepIsCounted }
 {}
 
-/// Where at most one copy is hit in a column of their segments, the votes leave each number as it
-/// was before the flips; so a guarded script gives the numbers of the guarded word machine, which
-/// knows no flips.
+/// Each element by itself: where, between two votes, each of its cells is hit in one copy at most,
+/// and it is computed of such elements, all three copies have its number as the word machine gives
+/// it, which knows no flips; whatever befell others.
 pub fn guarded_gives_words()
-    ensures mend { VotesMend }
     ensures words { GuardedGivesWords }
     ensures text { GuardedTextGivesWords }
 {}

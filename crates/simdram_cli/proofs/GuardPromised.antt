@@ -1,5 +1,5 @@
 -- A guarded run that ends with 0 or 8 keeps its promises.
-use Rattle.std.proofs.Common.{◌≡◌, ℕ, ◌+◌, Bool, true, false, List, [], ◌∷◌, ◌++◌, length, map}
+use Rattle.std.proofs.Common.{◌≡◌, ℕ, ◌+◌, ◌<◌, Bool, true, false, List, [], ◌∷◌, ◌++◌, length, map}
 use Rattle.std.proofs.Common.{Option, Some, None, refl, sym, ◌∙◌, ap, subst, append-nil}
 use Rattle.std.proofs.Common.{append_assoc}
 use Rattle.std.specs.Prelude.{Result, Ok, Err, ◌≢◌}
@@ -7,6 +7,7 @@ use Rattle.std.specs.List.{AllByRecursion}
 use Rattle.std.specs.Result.{result_ok}
 use Rattle.dram_model.specs.declared.geometry.Geometry.{Geometry}
 use Rattle.dram_model.specs.Chip.{Banks}
+use Rattle.dram_model.specs.Elements.{column_count}
 use Rattle.host_edge.specs.Views.{Files, Known}
 use Rattle.object_alloc.specs.Listed.{Named}
 use Rattle.object_alloc.specs.Spelling.{image_bytes}
@@ -16,30 +17,29 @@ use Rattle.bbop_isa.specs.declared.instr.ScriptFault.{ScriptFault}
 use Rattle.bbop_isa.specs.Forms.{Instruction}
 use Rattle.bbop_isa.specs.Forms.{Init, Bbop, Load as ByLoad, Fill, Print as ByPrint, Free, Order}
 use Rattle.bbop_isa.specs.Script.{script_of}
-use Rattle.machine_model.specs.Agrees.{Agrees, IsPlain}
+use Rattle.machine_model.specs.Agrees.{IsPlain}
 use Rattle.machine_model.specs.declared.Reply.{Reply}
 use Rattle.machine_model.specs.declared.Reply.TheVariants.{Done as ByDone, Refused}
 use Rattle.machine_model.specs.Script.{plus, replies}
 use Rattle.uprog_code.specs.declared.walker.Counts.{Counts}
 use Rattle.machine_model.specs.Routines.{Program, Routines, meaning_in, routines_in}
 use Rattle.machine_model.specs.Routines.{routines_of}
-use Rattle.machine_model.specs.Opened.{Image, opened, rows_in_banks, objects_held}
+use Rattle.machine_model.specs.Opened.{Image, opened, rows_in_banks}
 use Rattle.machine_model.specs.Report.{line, lines, total_line}
-use Rattle.machine_model.specs.Steps.{Held, table_of}
 use Rattle.machine_model.proofs.Texts.{same_operations}
 use Rattle.guard_model.specs.declared.Flip.{Flip}
-use Rattle.guard_model.specs.Guarded.{guarded_replies, guarded_rows, guarded_rows_at_end, joined}
+use Rattle.guard_model.specs.Guarded.{guarded_replies, guarded_rows, joined}
 use Rattle.guard_model.specs.Guarded.{plain_ones}
 use Rattle.guard_model.specs.Guarded.{guarded_said_by, guarded_said_in_rows}
 use Rattle.guard_model.specs.Guarded.{guarded_table, guarded_table_at_end}
-use Rattle.guard_model.specs.Guarded.{guarded_words, guarded_words_at_end, lone_words_at_end}
 use Rattle.guard_model.specs.Guarded.{guarded_turn, mended}
 use Rattle.guard_model.specs.Laws.{HasName, IsGuarded}
 use Rattle.guard_model.specs.Named.{first_long_name}
 use Rattle.guard_model.specs.Report.{guarded_report, vote_line}
-use Rattle.guard_model.specs.Triples.{first_copies, first_stranger, unplaced}
+use Rattle.guard_model.specs.Survival.{HoldsWhole, Spot}
+use Rattle.guard_model.specs.Triples.{first_stranger}
 use Rattle.guard_model.proofs.Adding.{accepted_has_names}
-use Rattle.guard_model.proofs.Whole.{guarded_table_is, guarded_text, triples_kept}
+use Rattle.guard_model.proofs.Whole.{guarded_text, triples_kept}
 use Rattle.guard_job.specs.Steps.{guarded_steps, line_steps}
 use Rattle.cli_model.specs.World.{World, with_file}
 use Rattle.wave_model.specs.Schedule.{Ahead, Turn}
@@ -51,12 +51,10 @@ use Rattle.simdram_cli.specs.declared.words.GuardNames.{GuardNames}
 use Rattle.simdram_cli.specs.Flips.{flips_in, in_triples}
 use Rattle.simdram_cli.specs.Flips.{table_refusal, name_refusal, unless_some, with_short_names}
 use Rattle.simdram_cli.specs.Guard.{GuardDoneOn, GuardJob}
-use Rattle.simdram_cli.specs.Guard.{Guarded, GuardedRows, GuardedWords}
-use Rattle.simdram_cli.specs.Guard.{IsMendable, Mended, guard_job}
-use Rattle.simdram_cli.specs.Guard.{image_at_last}
-use Rattle.simdram_cli.specs.Guard.{last_steps, operations_by}
-use Rattle.simdram_cli.specs.Guard.{refused_of, replies_by, replies_of, said_by}
-use Rattle.simdram_cli.specs.Guard.{said_of, state_by, table_at_last, tally_of, votes_of}
+use Rattle.simdram_cli.specs.Guard.{ElementsRight, Guarded, GuardedRows, GuardedWords, guard_job}
+use Rattle.simdram_cli.specs.Guard.{image_at_last, last_steps, lone_by, lone_first}
+use Rattle.simdram_cli.specs.Guard.{operations_by, refused_of, replies_by, replies_of, said_of}
+use Rattle.simdram_cli.specs.Guard.{table_at_last, tally_of, votes_of, whole_at_last, whole_in}
 use Rattle.simdram_cli.specs.Guard.{work_steps}
 use Rattle.simdram_cli.specs.Headline.{IsNoBadWalk, read_as}
 use Rattle.simdram_cli.specs.Inputs.{image_of, script_in, script_or_refusal}
@@ -65,7 +63,6 @@ use Rattle.simdram_cli.specs.Guard.{guard_plan}
 use Rattle.simdram_cli.proofs.OpsPlans.{spells_at}
 use Rattle.simdram_cli.proofs.Guarding.{Apart}
 use Rattle.simdram_cli.proofs.NoWalks.{AllEnd, all_end, no_walks}
-use Rattle.simdram_cli.proofs.Promises.{table_is}
 use Rattle.simdram_cli.proofs.Promised.{kept_other}
 use Rattle.cli_model.proofs.Files.{at_other, at_own}
 
@@ -215,16 +212,6 @@ walks_all g o table (instr ∷ script) ends plain = (
 
 -- what is said in words
 
-tables_end : (g : Geometry) (o : Routines) (meaning : List ℕ → ℕ → List ℕ → List ℕ)
-    (state : List Held) (script : List Instruction)
-    → table_of (guarded_words_at_end g o meaning state script)
-    ≡ guarded_table_at_end g o (table_of state) script
-tables_end g o meaning state [] = refl
-tables_end g o meaning state (instr ∷ script) =
-    tables_end g o meaning (guarded_words g o meaning state instr) script
-    ∙ ap (λ (t : List Named). guarded_table_at_end g o t script)
-    (guarded_table_is g o meaning state instr)
-
 triples_end : (g : Geometry) (o : Routines) (table : List Named) (script : List Instruction)
     → AllByRecursion HasName script → first_stranger table ≡ None
     → first_stranger (guarded_table_at_end g o table script) ≡ None
@@ -241,60 +228,11 @@ module _ (t : List TextOp) (job : GuardJob) (implements : ImplementsAll job.prog
   replies_same = ap (λ (o : Routines). guarded_replies job.image.geometry o job.image.table
       job.script) (sym same)
 
-  table_same : table_at_last job ≡ table_of (state_by t job)
+  table_same : table_at_last job ≡ guarded_table_at_end job.image.geometry (operations_by t job)
+      job.image.table job.script
   table_same =
       ap (λ (o : Routines). guarded_table_at_end job.image.geometry o job.image.table job.script)
       (sym same)
-      ∙ ap (λ (table : List Named). guarded_table_at_end job.image.geometry (operations_by t job)
-      table job.script) (sym (table_is job.image))
-      ∙ sym (tables_end job.image.geometry (operations_by t job) (meaning_in t)
-      (objects_held job.image) job.script)
-
-  said_same : guarded_said_in_rows job.image.geometry (operations_by t job) job.flips 1
-      (table_of (objects_held job.image)) (opened job.image) job.script ≡ said_by t job
-      → said_of job ≡ said_by t job
-  said_same e =
-      ap (λ (o : Routines). guarded_said_in_rows job.image.geometry o job.flips 1
-      job.image.table (opened job.image) job.script) (sym same)
-      ∙ ap (λ (table : List Named). guarded_said_in_rows job.image.geometry (operations_by t job)
-      job.flips 1 table (opened job.image) job.script) (sym (table_is job.image)) ∙ e
-
-  banks_same : (banks : Banks)
-      → banks ≡ guarded_rows_at_end job.image.geometry (routines_in job.program) job.flips 1
-      job.image.table (opened job.image) job.script
-      → guarded_rows_at_end job.image.geometry (operations_by t job) job.flips 1
-      (table_of (objects_held job.image)) (opened job.image) job.script ≡ banks
-  banks_same banks e =
-      ap (λ (table : List Named). guarded_rows_at_end job.image.geometry (operations_by t job)
-      job.flips 1 table (opened job.image) job.script) (table_is job.image)
-      ∙ ap (λ (o : Routines). guarded_rows_at_end job.image.geometry o job.flips 1
-      job.image.table (opened job.image) job.script) same
-      ∙ sym e
-
-  alone_same : map unplaced (first_copies (state_by t job))
-      ≡ map unplaced (lone_words_at_end job.image.geometry (operations_by t job) (meaning_in t)
-      (first_copies (objects_held job.image)) (guarded_replies job.image.geometry
-      (operations_by t job) (table_of (objects_held job.image)) job.script) job.script)
-      → map unplaced (first_copies (state_by t job))
-      ≡ map unplaced (lone_words_at_end job.image.geometry (operations_by t job) (meaning_in t)
-      (first_copies (objects_held job.image)) (replies_by t job) job.script)
-  alone_same e = e
-      ∙ ap (λ (table : List Named). map unplaced (lone_words_at_end job.image.geometry
-      (operations_by t job) (meaning_in t) (first_copies (objects_held job.image))
-      (guarded_replies job.image.geometry (operations_by t job) table job.script) job.script))
-      (table_is job.image)
-
-  report_same : (old new : World) → said_of job ≡ said_by t job
-      → Known (λ x y. y ≡ x ++ guarded_report (said_of job) (votes_of job) (length job.flips)
-      new.chip.counters (replies_of job)) old.sink.sent new.sink.sent
-      → Known (λ x y. y ≡ x ++ guarded_report (said_by t job) (votes_of job) (length job.flips)
-      new.chip.counters (replies_by t job)) old.sink.sent new.sink.sent
-  report_same old new e known =
-      subst (λ (bytes : List ℕ). Known (λ x y. y ≡ x ++ bytes) old.sink.sent new.sink.sent)
-      (ap (λ s. guarded_report s (votes_of job) (length job.flips) new.chip.counters
-      (replies_of job)) e
-      ∙ ap (guarded_report (said_by t job) (votes_of job) (length job.flips) new.chip.counters)
-      replies_same) known
 
 -- what is known of a job that was done
 record IsDone (out : List ℕ) (job : GuardJob) (after : Files) (old new : World) (status : ℕ)
@@ -305,27 +243,28 @@ record IsDone (out : List ℕ) (job : GuardJob) (after : Files) (old new : World
   triples : first_stranger job.image.table ≡ None
   rows : GuardedRows out job after old new status
 
-mends : (t : List TextOp) (out : List ℕ) (job : GuardJob) (after : Files) (old new : World)
-    (status : ℕ) → ImplementsAll job.program t → IsDone out job after old new status
-    → IsMendable t job → Mended t job old new
-mends t out job after old new status implements d m =
-    let g : IsGuarded job.image.geometry (operations_by t job) (meaning_in t) job.flips 1
-    (opened job.image) (objects_held job.image) job.script =
-    guarded_text job.program t job.image job.flips job.script d.done.image implements d.done.plain
-    d.names d.triples m.equal m.single in
-    let agrees : Agrees job.image.geometry new.chip.banks (state_by t job) =
-    subst (λ (b : Banks). Agrees job.image.geometry b (state_by t job))
-    (banks_same t job implements new.chip.banks d.rows.banks) g.agrees in
+elements_right : (t : List TextOp) (out : List ℕ) (job : GuardJob) (after : Files)
+    (old new : World) (status : ℕ) → ImplementsAll job.program t
+    → IsDone out job after old new status → (spot : Spot)
+    → spot.column < column_count job.image.geometry
+    → ElementsRight t job new.chip.banks spot
+elements_right t out job after old new status implements d spot fits =
+    let g : IsGuarded job.image.geometry (routines_in job.program) (meaning_in t) job.flips 1 spot
+    (whole_in job spot) job.image.table (opened job.image) (lone_first job) job.script =
+    subst (λ (o : Routines). IsGuarded job.image.geometry o (meaning_in t) job.flips 1 spot
+    (whole_in job spot) job.image.table (opened job.image) (lone_first job) job.script)
+    (same t job implements)
+    (guarded_text job.program t job.image job.flips job.script d.done.image implements
+    d.done.plain d.names d.triples spot fits) in
     record {
-      sent = report_same t job implements old new (said_same t job implements g.said) d.rows.sent;
-      numbers = agrees.numbers;
-      equal = g.equal;
-      alone = alone_same t job implements g.alone;
+      held = subst (λ (b : Banks). HoldsWhole job.image.geometry b spot (whole_at_last job spot)
+          (table_at_last job) (lone_by t job)) (sym d.rows.banks) g.holds;
+      printed = g.prints;
     }
 
 in_words : (t : List TextOp) (out : List ℕ) (job : GuardJob) (after : Files) (old new : World)
     (status : ℕ) → ImplementsAll job.program t → IsDone out job after old new status
-    → GuardedWords t job old new
+    → GuardedWords t job new.chip.banks
 in_words t out job after old new status implements d = record {
   replies = replies_same t job implements;
   walks = subst (AllByRecursion IsNoBadWalk) (replies_same t job implements)
@@ -334,7 +273,7 @@ in_words t out job after old new status implements d = record {
   table = table_same t job implements;
   triples = triples_end job.image.geometry (routines_in job.program) job.image.table job.script
       d.names d.triples;
-  mended = mends t out job after old new status implements d;
+  elements = elements_right t out job after old new status implements d;
 }
 
 -- A guarded run that was done keeps its promises

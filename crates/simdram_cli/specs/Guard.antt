@@ -1,10 +1,11 @@
 -- The command `guard`.
-use Rattle.std.specs.Prelude.{◌≡◌, ◌≢◌, ℕ, ◌*◌, map, List, [], ◌∷◌, ◌++◌, length, count_by}
+use Rattle.std.specs.Prelude.{◌≡◌, ◌≢◌, ℕ, ◌*◌, ◌<◌, List, [], ◌∷◌, ◌++◌, length, count_by}
 use Rattle.std.specs.Prelude.{Some, None}
 use Rattle.std.specs.List.{AllByRecursion}
 use Rattle.host_edge.specs.Views.{Files, Known}
 use Rattle.dram_model.specs.declared.dram.Counters.{Counters}
 use Rattle.dram_model.specs.Chip.{Banks, Event, LogIs}
+use Rattle.dram_model.specs.Elements.{column_count}
 use Rattle.dram_model.specs.View.{ChipView, HasBegun, with_reads}
 use Rattle.object_alloc.specs.Listed.{Named}
 use Rattle.object_alloc.specs.Spelling.{IsImage, image_bytes}
@@ -13,21 +14,22 @@ use Rattle.uprog_code.specs.Texts.{TextOp, ImplementsAll}
 use Rattle.bbop_isa.specs.Forms.{Instruction}
 use Rattle.wave_model.specs.Schedule.{Ahead}
 use Rattle.machine_model.specs.declared.Reply.{Reply}
-use Rattle.machine_model.specs.Agrees.{HoldsNumbers, IsPlain}
+use Rattle.machine_model.specs.Agrees.{IsPlain}
 use Rattle.machine_model.specs.Opened.{Image, opened, row_writes, rows_in_banks, objects_held}
 use Rattle.machine_model.specs.Routines.{Program, Routines, meaning_in, routines_in}
 use Rattle.machine_model.specs.Routines.{routines_of}
 use Rattle.machine_model.specs.Report.{Said, total_line}
 use Rattle.machine_model.specs.Script.{is_refused}
-use Rattle.machine_model.specs.Steps.{Held, table_of}
+use Rattle.machine_model.specs.Steps.{Held}
 use Rattle.guard_model.specs.declared.Flip.{Flip}
-use Rattle.guard_model.specs.Guarded.{Single, guarded_replies, guarded_rows_at_end}
-use Rattle.guard_model.specs.Guarded.{guarded_said_in_rows, guarded_said_in_words}
-use Rattle.guard_model.specs.Guarded.{guarded_table_at_end, guarded_tally, guarded_words_at_end}
+use Rattle.guard_model.specs.Guarded.{guarded_replies, guarded_rows_at_end}
+use Rattle.guard_model.specs.Guarded.{guarded_said_in_rows, guarded_table_at_end, guarded_tally}
 use Rattle.guard_model.specs.Guarded.{lone_words_at_end, votes_at_end}
 use Rattle.guard_model.specs.Named.{first_long_name}
 use Rattle.guard_model.specs.Report.{guarded_report, vote_line}
-use Rattle.guard_model.specs.Triples.{EqualCopies, first_copies, first_stranger, unplaced}
+use Rattle.guard_model.specs.Survival.{AllPrintWhole, HoldsWhole, Spot, Whole, whole_at_end}
+use Rattle.guard_model.specs.Survival.{whole_first}
+use Rattle.guard_model.specs.Triples.{first_copies, first_stranger}
 use Rattle.guard_job.specs.Events.{run_events}
 use Rattle.guard_job.specs.Steps.{guarded_steps}
 use Rattle.cli_model.specs.World.{World}
@@ -176,7 +178,7 @@ job_by t job =
     record { text = t; script = job.script; image = job.image; program = job.program }
 
 -- Row by row, whatever the flips are: the chip, which has begun with the image's geometry, its
--- banks, its counters and its log; OUT, which has the guarded word machine's table and these rows;
+-- banks, its counters and its log; OUT, which has the table after the script and these rows;
 -- the report; and the status
 pub record GuardedRows (out : List ℕ) (job : GuardJob) (after : Files) (old new : World)
     (status : ℕ) : Type 0 where
@@ -195,47 +197,51 @@ pub record GuardedRows (out : List ℕ) (job : GuardJob) (after : Files) (old ne
 abbrev pub operations_by : List TextOp → GuardJob → Routines
 operations_by t job = routines_of t job.program
 
--- the guarded word machine's state after the script, without flips and votes
-abbrev pub state_by : List TextOp → GuardJob → List Held
-state_by t job = guarded_words_at_end job.image.geometry (operations_by t job) (meaning_in t)
-    (objects_held job.image) job.script
-
--- what the guarded word machine says of the script
-abbrev pub said_by : List TextOp → GuardJob → List Said
-said_by t job = guarded_said_in_words job.image.geometry (operations_by t job) (meaning_in t)
-    (objects_held job.image) job.script
-
--- its replies to the script
+-- the replies to the script, by the text's operations
 abbrev pub replies_by : List TextOp → GuardJob → List Reply
 replies_by t job = guarded_replies job.image.geometry (operations_by t job) job.image.table
     job.script
 
--- the copies of each object of IMAGE are equal, and between two votes the flips hit at most one of
--- the three copies of an object in each column of its segments
-pub record IsMendable (t : List TextOp) (job : GuardJob) : Type 0 where
-  pub equal : EqualCopies (objects_held job.image)
-  pub single : Single job.image.geometry (operations_by t job) job.flips 1 job.image.table
-      job.script
+-- the objects of IMAGE, one copy of each
+abbrev pub lone_first : GuardJob → List Held
+lone_first job = first_copies (objects_held job.image)
 
--- What was sent is what the guarded word machine says of the script; each object has exactly its
--- numbers; the three copies of each are equal; and each holds what the word machine holds of one
-pub record Mended (t : List TextOp) (job : GuardJob) (old new : World) : Type 0 where
-  pub sent : Known (λ x y. y ≡ x ++ guarded_report (said_by t job) (votes_of job) (length job.flips)
-      new.chip.counters (replies_by t job)) old.sink.sent new.sink.sent
-  pub numbers : HoldsNumbers job.image.geometry new.chip.banks (state_by t job)
-  pub equal : EqualCopies (state_by t job)
-  pub alone : map unplaced (first_copies (state_by t job))
-      ≡ map unplaced (lone_words_at_end job.image.geometry (operations_by t job) (meaning_in t)
-      (first_copies (objects_held job.image)) (replies_by t job) job.script)
+-- what the word machine makes of these by the script, as the text's ops mean it
+abbrev pub lone_by : List TextOp → GuardJob → List Held
+lone_by t job = lone_words_at_end job.image.geometry (routines_in job.program) (meaning_in t)
+    job.image.table (lone_first job) job.script
 
--- By the ops of a text that the program does: the replies and the table are the guarded word
--- machine's, whatever the flips are, and no walk was stuck; and what is damaged so is mended
-pub record GuardedWords (t : List TextOp) (job : GuardJob) (old new : World) : Type 0 where
+-- which elements at one spot are sure to be right in IMAGE: those whose copies are equal
+abbrev pub whole_in : GuardJob → Spot → Whole
+whole_in job spot = whole_first job.image.geometry spot (objects_held job.image)
+
+-- which are sure to be right at the end, by the hits alone
+abbrev pub whole_at_last : GuardJob → Spot → Whole
+whole_at_last job spot = whole_at_end job.image.geometry (routines_in job.program) job.flips 1 spot
+    job.image.table (whole_in job spot) job.script
+
+-- Of the elements at one spot, each by itself: if it is sure to be right at the end, all three
+-- copies have the number that the word machine gives it on one copy; and so has what was printed of
+-- it while it was sure to be right
+pub record ElementsRight (t : List TextOp) (job : GuardJob) (banks : Banks) (spot : Spot) : Type 0
+  where
+    pub held : HoldsWhole job.image.geometry banks spot (whole_at_last job spot)
+        (table_at_last job) (lone_by t job)
+    pub printed : AllPrintWhole job.image.geometry (routines_in job.program) (meaning_in t)
+        job.flips 1 spot (whole_in job spot) job.image.table (opened job.image) (lone_first job)
+        job.script
+
+-- By the ops of a text that the program does: the replies and the table are those of the text's
+-- operations, whatever the flips are, and no walk was stuck; and at each spot the elements that are
+-- sure to be right by their hits are, whatever befell others
+pub record GuardedWords (t : List TextOp) (job : GuardJob) (banks : Banks) : Type 0 where
   pub replies : replies_of job ≡ replies_by t job
   pub walks : AllByRecursion IsNoBadWalk (replies_by t job)
-  pub table : table_at_last job ≡ table_of (state_by t job)
+  pub table : table_at_last job ≡ guarded_table_at_end job.image.geometry (operations_by t job)
+      job.image.table job.script
   pub triples : first_stranger (table_at_last job) ≡ None
-  pub mended : IsMendable t job → Mended t job old new
+  pub elements : (spot : Spot) → spot.column < column_count job.image.geometry
+      → ElementsRight t job banks spot
 
 -- What a guarded run promises, for every FLIPS: one job, that of the files at entry; PROG, whose
 -- entries take exactly the row commands of their ops' statements at each width; what stands and was
@@ -253,6 +259,6 @@ pub record Guarded (names : GuardNames) (before after : Files) (old new : World)
   pub program_written : ProgramWritten (run_names names) (job_by text job) after
   pub exact : AreExact job.program of_files.ops
   pub rows : GuardedRows names.out.now job after old new status
-  pub words : (t : List TextOp) → ImplementsAll job.program t → GuardedWords t job old new
+  pub words : (t : List TextOp) → ImplementsAll job.program t → GuardedWords t job new.chip.banks
   pub others : (other : List ℕ) → other ≢ names.prog.now → other ≢ names.out.now
       → after other ≡ before other
