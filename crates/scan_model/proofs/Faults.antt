@@ -1,77 +1,60 @@
 -- Where a query's text breaks a rule other than the grammar's.
 use Rattle.std.proofs.Common.{◌≡◌, ℕ, suc, ◌+◌, ◌^◌, ◌≤◌, ◌⊎◌, Bool, true, false, ◌&&◌}
 use Rattle.std.proofs.Common.{cond, leb, ltb, List, [], ◌∷◌, ◌++◌, Option, Some, None, refl, sym}
-use Rattle.std.proofs.Common.{◌∙◌, ap, subst, arith, inl, inr, append-nil, append_assoc}
-use Rattle.std.specs.Prelude.{Ok, Err, count_by, option_map, reverse, ◌||◌}
+use Rattle.std.proofs.Common.{◌∙◌, ap, subst, arith, inl, inr, append-nil, Result}
+use Rattle.std.specs.Prelude.{Ok, Err, count_by, option_map, option_and_then, reverse, ◌||◌}
 use Rattle.std.specs.List.{AllByRecursion}
-use Rattle.std.proofs.lemmas.List.{reverse-append}
 use Rattle.bit_rows.specs.declared.TheConstants.{WIDTH_MAX}
 use Rattle.std.proofs.lemmas.Bool.Decides.{nat_tests}
 use Rattle.std.proofs.lemmas.List.Sums.{sum_by-cons}
+use Rattle.std.proofs.lemmas.List.Sorted.{IsPermutation-reverse, sum_by-IsPermutation}
+use Rattle.text_lex.specs.Lexical.{Item, Lexeme, Bad}
+use Rattle.text_lex.specs.Lexical as lex
 use Rattle.text_lex.specs.Spelled.{fits_name}
+use Rattle.grammar.specs.declared.Breach.{Breach}
+use Rattle.grammar.specs.Machine as machine
+use Rattle.grammar.specs.Machine.{allowed}
+use Rattle.grammar.specs.Laws.{IsViable, all_seen}
+use Rattle.grammar.proofs.Walks.{RuleBroken, behind_reverse, first_decides, kept}
+use Rattle.grammar.proofs.Walks.{rule_broken, walk_allowed}
+use Rattle.grammar.proofs.Found.{allowed_split, good}
 use Rattle.scan_model.specs.declared.QueryKind.{QueryKind}
 use Rattle.scan_model.specs.declared.QueryKind.TheVariants as kind
 use Rattle.scan_model.specs.Texts.{Word, Name, Number, Opens, Closes, Comma, OpensBits, Colon}
-use Rattle.scan_model.specs.Texts.{ClosesBits, Other, Stranger}
-use Rattle.scan_model.specs.Texts.{Piece, Lead, Compares, Negates, Ands, Ors, lead_text}
+use Rattle.scan_model.specs.Texts.{ClosesBits, Other}
+use Rattle.scan_model.specs.Texts.{Lead, Compares, Negates, Ands, Ors, lead_text}
 use Rattle.scan_model.specs.Texts.{all_leads, lead_among, Wanted, Start, Open, Object, AtName}
 use Rattle.scan_model.specs.Texts.{Low, AtLow, High, AtHigh, AtBits, Between}
 use Rattle.scan_model.specs.Texts.{Bound, Close, wanted_after, Begun, tests_in, with_lead, fits}
-use Rattle.scan_model.specs.Texts.{Stepped, started, step, Breach, spare, after_token, breach_of}
+use Rattle.scan_model.specs.Texts.{checked, started, rules_at, step, queries, breach_of}
 use Rattle.scan_model.specs.Texts.{none_begun}
-use Rattle.scan_model.specs.TextLaws.{bare_words, IsViable, StandsAt}
-use Rattle.scan_model.specs.TextLaws.{BreaksName, BreaksNumber, BreaksCount, is_bad}
-use Rattle.scan_model.specs.TextLaws.{is_opening, is_name}
-use Rattle.scan_model.proofs.Parsed.{lead_is, among_text}
-use Rattle.scan_model.proofs.Viable.{follow, and_on, allowed, allowed-append, viable}
+use Rattle.scan_model.specs.TextLaws.{IsText, StandsAt, BreaksName, BreaksNumber, BreaksCount}
+use Rattle.scan_model.specs.TextLaws.{is_bad, is_opening, is_name}
+use Rattle.scan_model.proofs.Grammar.{lead_is, among_text, facts}
 
 -- ---- how many of the tokens that are wanted open a node, and how many name an object
 
+abbrev opens_one : Wanted → ℕ
+opens_one Open = 1
+opens_one w = 0
+
 abbrev opens_in : List Wanted → ℕ
 opens_in [] = 0
-opens_in (Start ∷ wanted) = opens_in wanted
-opens_in (Open ∷ wanted) = suc (opens_in wanted)
-opens_in (Object ∷ wanted) = opens_in wanted
-opens_in (AtName ∷ wanted) = opens_in wanted
-opens_in (Low ∷ wanted) = opens_in wanted
-opens_in (AtLow low ∷ wanted) = opens_in wanted
-opens_in (High low ∷ wanted) = opens_in wanted
-opens_in (AtHigh ∷ wanted) = opens_in wanted
-opens_in (AtBits ∷ wanted) = opens_in wanted
-opens_in (Between ∷ wanted) = opens_in wanted
-opens_in (Bound ∷ wanted) = opens_in wanted
-opens_in (Close ∷ wanted) = opens_in wanted
+opens_in (w ∷ wanted) = opens_one w + opens_in wanted
+
+abbrev objects_one : Wanted → ℕ
+objects_one Object = 1
+objects_one w = 0
 
 abbrev objects_in : List Wanted → ℕ
 objects_in [] = 0
-objects_in (Start ∷ wanted) = objects_in wanted
-objects_in (Open ∷ wanted) = objects_in wanted
-objects_in (Object ∷ wanted) = suc (objects_in wanted)
-objects_in (AtName ∷ wanted) = objects_in wanted
-objects_in (Low ∷ wanted) = objects_in wanted
-objects_in (AtLow low ∷ wanted) = objects_in wanted
-objects_in (High low ∷ wanted) = objects_in wanted
-objects_in (AtHigh ∷ wanted) = objects_in wanted
-objects_in (AtBits ∷ wanted) = objects_in wanted
-objects_in (Between ∷ wanted) = objects_in wanted
-objects_in (Bound ∷ wanted) = objects_in wanted
-objects_in (Close ∷ wanted) = objects_in wanted
+objects_in (w ∷ wanted) = objects_one w + objects_in wanted
 
 -- after a query that is wanted neither is
 abbrev IsTidy : List Wanted → Type 0
 IsTidy [] = Unit {0}
 IsTidy (Start ∷ wanted) = (opens_in wanted ≡ 0) × (objects_in wanted ≡ 0) × IsTidy wanted
-IsTidy (Open ∷ wanted) = IsTidy wanted
-IsTidy (Object ∷ wanted) = IsTidy wanted
-IsTidy (AtName ∷ wanted) = IsTidy wanted
-IsTidy (Low ∷ wanted) = IsTidy wanted
-IsTidy (AtLow low ∷ wanted) = IsTidy wanted
-IsTidy (High low ∷ wanted) = IsTidy wanted
-IsTidy (AtHigh ∷ wanted) = IsTidy wanted
-IsTidy (AtBits ∷ wanted) = IsTidy wanted
-IsTidy (Between ∷ wanted) = IsTidy wanted
-IsTidy (Bound ∷ wanted) = IsTidy wanted
-IsTidy (Close ∷ wanted) = IsTidy wanted
+IsTidy (w ∷ wanted) = IsTidy wanted
 
 -- what stands before a token that is wanted, the last first
 abbrev Follows : Wanted → List Word → Type 0
@@ -79,14 +62,7 @@ Follows Low past = (rest : List Word) × (past ≡ OpensBits ∷ rest)
 Follows (AtLow low) past = (rest : List Word) × (past ≡ Number low ∷ rest)
 Follows (High low) past = (rest : List Word) × (past ≡ Colon ∷ Number low ∷ rest)
 Follows Bound past = (rest : List Word) × (past ≡ Comma ∷ rest)
-Follows Start past = Unit {0}
-Follows Open past = Unit {0}
-Follows Object past = Unit {0}
-Follows AtName past = Unit {0}
-Follows AtHigh past = Unit {0}
-Follows AtBits past = Unit {0}
-Follows Between past = Unit {0}
-Follows Close past = Unit {0}
+Follows w past = Unit {0}
 
 -- it may be wanted whatever stands before it
 abbrev IsFree : Wanted → Type 0
@@ -95,13 +71,7 @@ IsFree Open = Unit {0}
 IsFree Object = Unit {0}
 IsFree Between = Unit {0}
 IsFree Close = Unit {0}
-IsFree AtName = ⊥
-IsFree Low = ⊥
-IsFree (AtLow low) = ⊥
-IsFree (High low) = ⊥
-IsFree AtHigh = ⊥
-IsFree AtBits = ⊥
-IsFree Bound = ⊥
+IsFree w = ⊥
 
 abbrev AreFree : List Wanted → Type 0
 AreFree wanted = AllByRecursion IsFree wanted
@@ -117,13 +87,7 @@ free_follows Open past h = tt
 free_follows Object past h = tt
 free_follows Between past h = tt
 free_follows Close past h = tt
-free_follows AtName past h = tt
-free_follows Low past h = absurd h
-free_follows (AtLow low) past h = absurd h
-free_follows (High low) past h = absurd h
-free_follows AtHigh past h = tt
-free_follows AtBits past h = tt
-free_follows Bound past h = absurd h
+free_follows _ past h = absurd h
 
 free_fitting : (wanted : List Wanted) (past : List Word) → AreFree wanted → Fitting past wanted
 free_fitting [] past h = tt
@@ -136,24 +100,12 @@ lead_free Negates wanted h = (tt, (tt, (tt, h)))
 lead_free Ands wanted h = (tt, (tt, (tt, (tt, (tt, h)))))
 lead_free Ors wanted h = (tt, (tt, (tt, (tt, (tt, h)))))
 
--- the tokens read, the last first, before those that stood before
-behind : List Word → List Word → List Word
-behind [] past = past
-behind (w ∷ words) past = behind words (w ∷ past)
-
-behind_reverse : (words past : List Word) → behind words past ≡ reverse words ++ past
-unfolding behind
-behind_reverse [] past = refl
-behind_reverse (w ∷ words) past = behind_reverse words (w ∷ past)
-    ∙ sym (append_assoc (reverse words) (w ∷ []) past)
-    ∙ ap (λ ws. ws ++ past) (sym (reverse-append (w ∷ []) words))
-
 lead_opens : (lead : Lead) (wanted : List Wanted)
     → opens_in (wanted_after lead ++ wanted) ≡ suc (opens_in wanted)
-lead_opens (Compares op) wanted = refl
-lead_opens Negates wanted = refl
-lead_opens Ands wanted = refl
-lead_opens Ors wanted = refl
+lead_opens (Compares op) wanted = omega arith
+lead_opens Negates wanted = omega arith
+lead_opens Ands wanted = omega arith
+lead_opens Ors wanted = omega arith
 
 lead_objects : (lead : Lead) (wanted : List Wanted)
     → objects_in (wanted_after lead ++ wanted) ≡ tests_in lead + objects_in wanted
@@ -165,439 +117,281 @@ lead_objects Ors wanted = omega arith
 lead_tidy : (lead : Lead) (wanted : List Wanted) → IsTidy (Start ∷ wanted)
     → IsTidy (wanted_after lead ++ wanted)
 lead_tidy (Compares op) wanted t = t.2
-lead_tidy Negates wanted t = t
-lead_tidy Ands wanted t = (t.0, t.1, t)
-lead_tidy Ors wanted t = (t.0, t.1, t)
+lead_tidy Negates wanted t = (omega (arith, t.0), omega (arith, t.1), t.2)
+lead_tidy Ands wanted t = (
+  omega (arith, t.0),
+  omega (arith, t.1),
+  (omega (arith, t.0), omega (arith, t.1), t.2),
+)
+lead_tidy Ors wanted t = (
+  omega (arith, t.0),
+  omega (arith, t.1),
+  (omega (arith, t.0), omega (arith, t.1), t.2),
+)
 
--- ---- from a state to a later one, by tokens that the grammar allows
+-- ---- what holds before each token
 
-record Walk (wanted stack : List Wanted) (s t : Begun) (words : List Word) : Type 0 where
-  ok : allowed wanted words ≡ Some stack
-  nodes : s.nodes + opens_in stack + count_by is_opening words ≡ t.nodes + opens_in wanted
-  names : s.nodes + s.tests + objects_in stack + count_by is_name words
-      ≡ t.nodes + t.tests + objects_in wanted
-  tidy : IsTidy wanted → IsTidy stack
-  fitting : (past : List Word) → Fitting past wanted → Fitting (behind words past) stack
-  fit : fits s ≡ true → fits t ≡ true
+record Kept (past : List Word) (stack : List Wanted) (s : Begun) : Type 0 where
+  nodes : count_by is_opening past + opens_in stack ≡ s.nodes
+  names : count_by is_name past + objects_in stack ≡ s.nodes + s.tests
+  tidy : IsTidy stack
+  fitting : Fitting past stack
+  fit : fits s ≡ true
 
-nothing_read : (wanted : List Wanted) (s : Begun) → Walk wanted wanted s s []
-unfolding behind
-nothing_read wanted s = record {
-  ok = refl;
-  nodes = omega arith;
-  names = omega arith;
-  tidy = λ t. t;
-  fitting = λ past h. h;
-  fit = λ f. f;
-}
+count_more : (test : Word → Bool) (word : Word) (words : List Word)
+    → count_by test (word ∷ words) ≡ cond (test word) 1 0 + count_by test words
+count_more test word words = sum_by-cons (λ (w : Word). cond (test w) 1 0) word words
 
--- one token before others
-record OneRead (w : Wanted) (wanted : List Wanted) (s : Begun) (word : Word)
-    (front : List Wanted) (t : Begun) : Type 0 where
-  follows : follow w word ≡ Some front
-  nodes : s.nodes + opens_in (front ++ wanted) + count_by is_opening (word ∷ [])
-      ≡ t.nodes + opens_in (w ∷ wanted)
-  names : s.nodes + s.tests + objects_in (front ++ wanted) + count_by is_name (word ∷ [])
-      ≡ t.nodes + t.tests + objects_in (w ∷ wanted)
-  tidy : IsTidy (w ∷ wanted) → IsTidy (front ++ wanted)
-  fitting : (past : List Word) → Fitting past (w ∷ wanted) → Fitting (word ∷ past) (front ++ wanted)
-  fit : fits s ≡ true → fits t ≡ true
-
-count_one : (test : Word → Bool) (word : Word) (words : List Word)
-    → count_by test (word ∷ words) ≡ count_by test (word ∷ []) + count_by test words
-count_one test word words =
-    let one : Word → ℕ = λ w. cond (test w) 1 0 in
-    let alone : count_by test (word ∷ []) ≡ one word =
-    sum_by-cons one word [] ∙ omega arith in
-    sum_by-cons one word words ∙ ap (λ (n : ℕ). n + count_by test words) (sym alone)
-
-one_before : (w : Wanted) (wanted stack front : List Wanted) (s t u : Begun) (word : Word)
-    (words : List Word) → OneRead w wanted s word front t → Walk (front ++ wanted) stack t u words
-    → Walk (w ∷ wanted) stack s u (word ∷ words)
-unfolding behind
-one_before w wanted stack front s t u word words one more =
-    let opened = count_one is_opening word words in
-    let named = count_one is_name word words in
-    let first_nodes = one.nodes in
-    let first_names = one.names in
-    let later_nodes = more.nodes in
-    let later_names = more.names in
+-- a token after which the same has begun
+next : (past : List Word) (word : Word) (w : Wanted) (wanted front : List Wanted) (s : Begun)
+    → Kept past (w ∷ wanted) s
+    → cond (is_opening word) 1 0 + opens_in (front ++ wanted) ≡ opens_in (w ∷ wanted)
+    → cond (is_name word) 1 0 + objects_in (front ++ wanted) ≡ objects_in (w ∷ wanted)
+    → IsTidy (front ++ wanted) → Fitting (word ∷ past) (front ++ wanted)
+    → Kept (word ∷ past) (front ++ wanted) s
+next past word w wanted front s k opened named tidy fitting =
+    let more = count_more is_opening word past in
+    let names = count_more is_name word past in
+    let a = k.nodes in
+    let b = k.names in
     record {
-      ok = ap (λ (o : Option (List Wanted)). and_on o (λ f. allowed (f ++ wanted) words))
-          one.follows ∙ more.ok;
-      nodes = omega (arith, opened, first_nodes, later_nodes);
-      names = omega (arith, named, first_names, later_names);
-      tidy = λ h. more.tidy (one.tidy h);
-      fitting = λ past h. more.fitting (word ∷ past) (one.fitting past h);
-      fit = λ h. more.fit (one.fit h);
+      nodes = omega (arith, more, a, opened);
+      names = omega (arith, names, b, named);
+      tidy = tidy;
+      fitting = fitting;
+      fit = k.fit;
     }
 
--- ---- what a step tells of its token
+-- a token after which all that is wanted was wanted before
+last : (past : List Word) (word : Word) (w : Wanted) (wanted : List Wanted) (s : Begun)
+    → Kept past (w ∷ wanted) s → cond (is_opening word) 1 0 ≡ opens_one w
+    → cond (is_name word) 1 0 ≡ objects_one w → IsTidy wanted → Kept (word ∷ past) wanted s
+last past word w wanted s k opened named tidy =
+    next past word w wanted [] s k (ap (λ n. n + opens_in wanted) opened)
+    (ap (λ n. n + objects_in wanted) named) tidy
+    (free_fitting wanted (word ∷ past) k.fitting.1)
+
+-- what a step comes to
+abbrev Keeps : Wanted → Word → Result (List Wanted × Begun) QueryKind → Begun → Type 0
+Keeps w word (Err k) s = Unit {0}
+Keeps w word (Ok r) s = (past : List Word) (wanted : List Wanted) → Kept past (w ∷ wanted) s
+    → Kept (word ∷ past) (r.0 ++ wanted) r.1
+
+by_rule : (w : Wanted) (word : Word) (front : List Wanted) (b : Bool) (s t : Begun)
+    (k : QueryKind) → (b ≡ true → (past : List Word) (wanted : List Wanted)
+    → Kept past (w ∷ wanted) s → Kept (word ∷ past) (front ++ wanted) t)
+    → Keeps w word (machine.with_rules kind.Syntax (Some front) (checked b t k)) s
+by_rule w word front true s t k h = h refl
+by_rule w word front false s t k h = tt
+
+lead_keeps : (lead : Lead) (s : Begun) (past : List Word) (wanted : List Wanted)
+    → fits (with_lead s lead) ≡ true → Kept past (Start ∷ wanted) s
+    → Kept (Name (lead_text lead) ∷ past) (wanted_after lead ++ wanted) (with_lead s lead)
+lead_keeps lead s past wanted e k =
+    let more = count_more is_opening (Name (lead_text lead)) past in
+    let names = count_more is_name (Name (lead_text lead)) past in
+    let opened = lead_opens lead wanted in
+    let named = lead_objects lead wanted in
+    let a = k.nodes in
+    let b = k.names in
+    record {
+      nodes = omega (arith, more, opened, a);
+      names = omega (arith, names, named, b);
+      tidy = lead_tidy lead wanted k.tidy;
+      fitting = free_fitting (wanted_after lead ++ wanted) (Name (lead_text lead) ∷ past)
+          (lead_free lead wanted k.fitting.1);
+      fit = e;
+    }
+
+step_keeps : (w : Wanted) (s : Begun) (word : Word) → Keeps w word (step w s word) s
+step_keeps Start s (Name x) = by (lead_among all_leads x) refl where
+  by : (found : Option Lead) → lead_among all_leads x ≡ found → Keeps Start (Name x)
+      (machine.with_rules kind.Syntax (option_map wanted_after found) (started s found)) s
+  by None e = tt
+  by (Some lead) e = subst (λ y. Keeps Start (Name y) (machine.with_rules kind.Syntax
+      (Some (wanted_after lead)) (started s (Some lead))) s) (sym (among_text all_leads x lead e))
+      (by_rule Start (Name (lead_text lead)) (wanted_after lead) (fits (with_lead s lead)) s
+      (with_lead s lead) kind.TooMany (λ f past wanted k. lead_keeps lead s past wanted f k))
+step_keeps Open s Opens = λ past wanted k. last past Opens Open wanted s k refl refl k.tidy
+step_keeps Object s (Name x) =
+    by_rule Object (Name x) (AtName ∷ []) (fits_name x) s s kind.BadName
+    (λ f past wanted k. next past (Name x) Object wanted (AtName ∷ []) s k (omega arith)
+    (omega arith) k.tidy (tt, k.fitting.1))
+step_keeps AtName s Comma = λ past wanted k. next past Comma AtName wanted (Bound ∷ []) s k
+    (omega arith) (omega arith) k.tidy ((past, refl), k.fitting.1)
+step_keeps AtName s OpensBits = λ past wanted k. next past OpensBits AtName wanted (Low ∷ []) s k
+    (omega arith) (omega arith) k.tidy ((past, refl), k.fitting.1)
+step_keeps Low s (Number v) =
+    by_rule Low (Number v) (AtLow v ∷ []) (ltb v WIDTH_MAX) s s kind.BadNumber
+    (λ f past wanted k. next past (Number v) Low wanted (AtLow v ∷ []) s k (omega arith)
+    (omega arith) k.tidy ((past, refl), k.fitting.1))
+step_keeps (AtLow low) s ClosesBits = λ past wanted k. next past ClosesBits (AtLow low) wanted
+    (AtBits ∷ []) s k (omega arith) (omega arith) k.tidy (tt, k.fitting.1)
+step_keeps (AtLow low) s Colon = λ past wanted k. next past Colon (AtLow low) wanted
+    (High low ∷ []) s k (omega arith) (omega arith) k.tidy
+    ((k.fitting.0.0, ap (λ ws. Colon ∷ ws) k.fitting.0.1), k.fitting.1)
+step_keeps (High low) s (Number v) =
+    by_rule (High low) (Number v) (AtHigh ∷ []) (ltb low v && leb v WIDTH_MAX) s s kind.BadNumber
+    (λ f past wanted k. next past (Number v) (High low) wanted (AtHigh ∷ []) s k (omega arith)
+    (omega arith) k.tidy (tt, k.fitting.1))
+step_keeps AtHigh s ClosesBits = λ past wanted k. next past ClosesBits AtHigh wanted
+    (AtBits ∷ []) s k (omega arith) (omega arith) k.tidy (tt, k.fitting.1)
+step_keeps AtBits s Comma = λ past wanted k. next past Comma AtBits wanted (Bound ∷ []) s k
+    (omega arith) (omega arith) k.tidy ((past, refl), k.fitting.1)
+step_keeps Between s Comma = λ past wanted k. last past Comma Between wanted s k refl refl k.tidy
+step_keeps Bound s (Number v) =
+    by_rule Bound (Number v) [] (ltb v (2 ^ 128)) s s kind.BadNumber
+    (λ f past wanted k. last past (Number v) Bound wanted s k refl refl k.tidy)
+step_keeps Close s Closes = λ past wanted k. last past Closes Close wanted s k refl refl k.tidy
+step_keeps _ s Other = tt
+step_keeps _ s _ = tt
+
+keeps_ok : (w : Wanted) (s t : Begun) (word : Word) (front : List Wanted)
+    (r : Result (List Wanted × Begun) QueryKind) → r ≡ Ok (front, t) → Keeps w word r s
+    → Keeps w word (Ok (front, t)) s
+keeps_ok w s t word front r e h = subst (λ x. Keeps w word x s) e h
+
+kept_at : (items : List Item) (b : Breach QueryKind)
+    (at : RuleBroken queries (Start ∷ []) none_begun items b)
+    → Kept (reverse (all_seen queries at.before)) (at.w ∷ at.stack) at.stands
+kept_at items b at =
+    subst (λ past. Kept past (at.w ∷ at.stack) at.stands)
+    (behind_reverse (all_seen queries at.before) [] ∙ append-nil _)
+    (kept queries Kept (λ past w ws front s t u o h e.
+    keeps_ok w s t (queries.seen u) front (step w s (queries.seen u)) e
+    (step_keeps w s (queries.seen u)) past ws h) false at.before [] (Start ∷ []) none_begun
+    (at.w ∷ at.stack, at.stands) at.walked (record {
+      nodes = refl;
+      names = refl;
+      tidy = (refl, refl, tt);
+      fitting = (tt, tt);
+      fit = refl;
+    }))
+
+-- ---- the first fault decides
+
+shut : (items : List Item) → machine.opens_next queries items ≡ false
+shut [] = refl
+shut (Bad f ∷ items) = refl
+shut (lex.Whole u ∷ items) = refl
+
+pub stays : (items more : List Item) (b : Breach QueryKind) (place : ℕ)
+    → breach_of (Start ∷ []) none_begun items ≡ Some b → b.at ≡ Some place
+    → breach_of (Start ∷ []) none_begun (items ++ more) ≡ Some b
+stays items more b place h e = first_decides queries none_begun items more b place (shut more) h e
+
+-- ---- the token at fault
+
+abbrev At : List Item → Breach QueryKind → Type 0
+At items b = RuleBroken queries (Start ∷ []) none_begun items b
+
+stands : (items : List Item) (b : Breach QueryKind) (word : Word) (at : At items b)
+    → word ≡ queries.seen at.token → StandsAt items b.at (all_seen queries at.before) word
+stands items b word at e = record {
+  front = at.before;
+  token = at.token;
+  others = at.others;
+  parts = at.parts;
+  place = at.place;
+  before_is = refl;
+  word_is = e;
+}
+
+-- where the grammar allows more after these tokens
+viable_with : (items : List Item) (b : Breach QueryKind) (at : At items b) (more : List Word)
+    (rest : List Wanted) → allowed queries false (at.w ∷ at.stack) more ≡ Some rest
+    → IsViable IsText (all_seen queries at.before ++ more)
+viable_with items b at more rest e =
+    good queries IsText facts false (all_seen queries at.before ++ more) (is_some
+    (allowed_split queries false (all_seen queries at.before) more (Start ∷ [])
+    ∙ ap (option_and_then (λ t. allowed queries false t more))
+    (flag more ∙ walk_allowed queries false at.before (Start ∷ []) none_begun
+    (at.w ∷ at.stack, at.stands) at.walked) ∙ e)) where
+      is_some : {o : Option (List Wanted)} → o ≡ Some rest → o ≡ None → ⊥
+      is_some e f = cc
+
+      flag : (more : List Word) → allowed queries (machine.opens_or queries false more) (Start ∷ [])
+          (all_seen queries at.before)
+          ≡ allowed queries false (Start ∷ []) (all_seen queries at.before)
+      flag [] = refl
+      flag (u ∷ us) = refl
 
 -- a number that is wanted there, and not this one
 abbrev IsWrong : Wanted → ℕ → Type 0
 IsWrong Low v = ltb v WIDTH_MAX ≡ false
 IsWrong (High low) v = (ltb low v && leb v WIDTH_MAX) ≡ false
 IsWrong Bound v = ltb v (2 ^ 128) ≡ false
-IsWrong Start v = ⊥
-IsWrong Open v = ⊥
-IsWrong Object v = ⊥
-IsWrong AtName v = ⊥
-IsWrong (AtLow low) v = ⊥
-IsWrong AtHigh v = ⊥
-IsWrong AtBits v = ⊥
-IsWrong Between v = ⊥
-IsWrong Close v = ⊥
+IsWrong w v = ⊥
 
+-- what is told of a token that breaks a rule
 abbrev Fault : Wanted → Begun → Word → QueryKind → Type 0
-Fault w s word kind.BadName = (name : List ℕ) × (w ≡ Object) × (word ≡ Name name)
-    × (fits_name name ≡ false)
+Fault w s word kind.BadName = (x : List ℕ) × (w ≡ Object) × (word ≡ Name x)
+    × (fits_name x ≡ false)
 Fault w s word kind.BadNumber = (v : ℕ) × (word ≡ Number v) × IsWrong w v
 Fault w s word kind.TooMany = (lead : Lead) × (w ≡ Start) × (word ≡ Name (lead_text lead))
     × (fits (with_lead s lead) ≡ false)
-Fault w s word kind.Lex = Unit {0}
-Fault w s word kind.Syntax = Unit {0}
+Fault w s word k = Unit {0}
 
-abbrev Tells : Wanted → Begun → Word → Stepped → Type 0
-Tells w s word (Ok r) = (wanted : List Wanted) → OneRead w wanted s word r.0 r.1
-Tells w s word (Err k) = Fault w s word k
+not_met : (b : Bool) (s t : Begun) (w : Wanted) (word : Word) (k found : QueryKind)
+    → (b ≡ false → Fault w s word k) → checked b t k ≡ Err found → Fault w s word found
+not_met true s t w word k found h e = cc
+not_met false s t w word k found h e = let same : k ≡ found = cc in
+    subst (Fault w s word) same (h refl)
 
-name_tells : (s : Begun) (name : List ℕ) (b : Bool) → fits_name name ≡ b
-    → Tells Object s (Name name) (cond b (Ok (AtName ∷ [], s)) (Err kind.BadName))
-name_tells s name true e = λ wanted. record {
-  follows = refl;
-  nodes = omega arith;
-  names = omega arith;
-  tidy = λ t. t;
-  fitting = λ past h. (tt, h.1);
-  fit = λ f. f;
-}
-name_tells s name false e = (name, refl, refl, e)
-
-number_tells : (s : Begun) (v : ℕ) (b : Bool) → ltb v (2 ^ 128) ≡ b
-    → Tells Bound s (Number v) (cond b (Ok ([], s)) (Err kind.BadNumber))
-number_tells s v true e = λ wanted. record {
-  follows = refl;
-  nodes = omega arith;
-  names = omega arith;
-  tidy = λ t. t;
-  fitting = λ past h. free_fitting wanted (Number v ∷ past) h.1;
-  fit = λ f. f;
-}
-number_tells s v false e = (v, refl, e)
-
-low_tells : (s : Begun) (v : ℕ) (b : Bool) → ltb v WIDTH_MAX ≡ b
-    → Tells Low s (Number v) (cond b (Ok (AtLow v ∷ [], s)) (Err kind.BadNumber))
-low_tells s v true e = λ wanted. record {
-  follows = refl;
-  nodes = omega arith;
-  names = omega arith;
-  tidy = λ t. t;
-  fitting = λ past h. ((past, refl), h.1);
-  fit = λ f. f;
-}
-low_tells s v false e = (v, refl, e)
-
-high_tells : (s : Begun) (low v : ℕ) (b : Bool) → (ltb low v && leb v WIDTH_MAX) ≡ b
-    → Tells (High low) s (Number v) (cond b (Ok (AtHigh ∷ [], s)) (Err kind.BadNumber))
-high_tells s low v true e = λ wanted. record {
-  follows = refl;
-  nodes = omega arith;
-  names = omega arith;
-  tidy = λ t. t;
-  fitting = λ past h. (tt, h.1);
-  fit = λ f. f;
-}
-high_tells s low v false e = (v, refl, e)
-
-lead_tells : (s : Begun) (lead : Lead) (b : Bool) → fits (with_lead s lead) ≡ b
-    → Tells Start s (Name (lead_text lead))
-    (cond b (Ok (wanted_after lead, with_lead s lead)) (Err kind.TooMany))
-lead_tells s lead true e = λ wanted.
-    let opened = lead_opens lead wanted in
-    let named = lead_objects lead wanted in
-    record {
-      follows = ap (option_map wanted_after) (lead_is lead);
-      nodes = omega (arith, opened);
-      names = omega (arith, named);
-      tidy = lead_tidy lead wanted;
-      fitting = λ past h. free_fitting (wanted_after lead ++ wanted)
-          (Name (lead_text lead) ∷ past) (lead_free lead wanted h.1);
-      fit = λ f. e;
-    }
-lead_tells s lead false e = (lead, refl, refl, e)
-
-start_tells : (s : Begun) (name : List ℕ) (o : Option Lead) → lead_among all_leads name ≡ o
-    → Tells Start s (Name name) (started s o)
-start_tells s name None e = tt
-start_tells s name (Some lead) e =
-    subst (λ (n : List ℕ). Tells Start s (Name n) (started s (Some lead)))
-    (sym (among_text all_leads name lead e))
-    (lead_tells s lead (fits (with_lead s lead)) refl)
-
-step_tells : (w : Wanted) (s : Begun) (word : Word) → Tells w s word (step w s word)
-step_tells w s Stranger = tt
-step_tells Start s (Name name) = start_tells s name (lead_among all_leads name) refl
-step_tells Open s Opens = λ wanted. record {
-  follows = refl;
-  nodes = omega arith;
-  names = omega arith;
-  tidy = λ t. t;
-  fitting = λ past h. free_fitting wanted (Opens ∷ past) h.1;
-  fit = λ f. f;
-}
-step_tells Object s (Name name) = name_tells s name (fits_name name) refl
-step_tells AtName s Comma = λ wanted. record {
-  follows = refl;
-  nodes = omega arith;
-  names = omega arith;
-  tidy = λ t. t;
-  fitting = λ past h. ((past, refl), h.1);
-  fit = λ f. f;
-}
-step_tells AtName s OpensBits = λ wanted. record {
-  follows = refl;
-  nodes = omega arith;
-  names = omega arith;
-  tidy = λ t. t;
-  fitting = λ past h. ((past, refl), h.1);
-  fit = λ f. f;
-}
-step_tells Low s (Number v) = low_tells s v (ltb v WIDTH_MAX) refl
-step_tells (AtLow low) s ClosesBits = λ wanted. record {
-  follows = refl;
-  nodes = omega arith;
-  names = omega arith;
-  tidy = λ t. t;
-  fitting = λ past h. (tt, h.1);
-  fit = λ f. f;
-}
-step_tells (AtLow low) s Colon = λ wanted. record {
-  follows = refl;
-  nodes = omega arith;
-  names = omega arith;
-  tidy = λ t. t;
-  fitting = λ past h. ((h.0.0, ap (λ ws. Colon ∷ ws) h.0.1), h.1);
-  fit = λ f. f;
-}
-step_tells (High low) s (Number v) = high_tells s low v (ltb low v && leb v WIDTH_MAX) refl
-step_tells AtHigh s ClosesBits = λ wanted. record {
-  follows = refl;
-  nodes = omega arith;
-  names = omega arith;
-  tidy = λ t. t;
-  fitting = λ past h. (tt, h.1);
-  fit = λ f. f;
-}
-step_tells AtBits s Comma = λ wanted. record {
-  follows = refl;
-  nodes = omega arith;
-  names = omega arith;
-  tidy = λ t. t;
-  fitting = λ past h. ((past, refl), h.1);
-  fit = λ f. f;
-}
-step_tells Between s Comma = λ wanted. record {
-  follows = refl;
-  nodes = omega arith;
-  names = omega arith;
-  tidy = λ t. t;
-  fitting = λ past h. free_fitting wanted (Comma ∷ past) h.1;
-  fit = λ f. f;
-}
-step_tells Bound s (Number v) = number_tells s v (ltb v (2 ^ 128)) refl
-step_tells Close s Closes = λ wanted. record {
-  follows = refl;
-  nodes = omega arith;
-  names = omega arith;
-  tidy = λ t. t;
-  fitting = λ past h. free_fitting wanted (Closes ∷ past) h.1;
-  fit = λ f. f;
-}
-step_tells Start s Other = tt
-step_tells Open s Other = tt
-step_tells Object s Other = tt
-step_tells AtName s Other = tt
-step_tells Low s Other = tt
-step_tells (AtLow low) s Other = tt
-step_tells (High low) s Other = tt
-step_tells AtHigh s Other = tt
-step_tells AtBits s Other = tt
-step_tells Between s Other = tt
-step_tells Bound s Other = tt
-step_tells Close s Other = tt
-step_tells w s word = tt
-
--- ---- the first fault decides
-
-same_breach : (b c : Breach) → Some b ≡ Some c → b ≡ c
-same_breach b c e = cc
-
-abbrev place_in : Breach → Option ℕ
-place_in b = b.at
-
-stays_after : (r : Stepped) (at : ℕ) (go goes : List Wanted → Begun → Option Breach) (b : Breach)
-    → ((front : List Wanted) (t : Begun) → go front t ≡ Some b → goes front t ≡ Some b)
-    → after_token r at go ≡ Some b → after_token r at goes ≡ Some b
-stays_after (Ok r) at go goes b on h = on r.0 r.1 h
-stays_after (Err k) at go goes b on h = h
-
-pub stays : (pieces more : List Piece) (wanted : List Wanted) (s : Begun) (b : Breach) (place : ℕ)
-    → breach_of wanted s pieces ≡ Some b → b.at ≡ Some place
-    → breach_of wanted s (pieces ++ more) ≡ Some b
-unfolding breach_of
-stays [] more [] s b place h k = absurd (cc)
-stays [] more (w ∷ wanted) s b place h k =
-    let e = same_breach (record { at = None; kind = kind.Syntax }) b h in
-    absurd (let f : None ≡ Some place = ap place_in e ∙ k in cc)
-stays (p ∷ pieces) more [] s b place h k = h
-stays (p ∷ pieces) more (w ∷ wanted) s b place h k =
-    stays_after (step w s p.1) p.0 (λ front t. breach_of (front ++ wanted) t pieces)
-    (λ front t. breach_of (front ++ wanted) t (pieces ++ more)) b
-    (λ front t e. stays pieces more (front ++ wanted) t b place e k) h
-
--- ---- the token at fault
+fault_is : (w : Wanted) (s : Begun) (word : Word) (k : QueryKind) → rules_at w s word ≡ Err k
+    → Fault w s word k
+fault_is Start s (Name x) k e = by (lead_among all_leads x) refl e where
+  by : (found : Option Lead) → lead_among all_leads x ≡ found → started s found ≡ Err k
+      → Fault Start s (Name x) k
+  by None f e = cc
+  by (Some lead) f e = not_met (fits (with_lead s lead)) s (with_lead s lead) Start (Name x)
+      kind.TooMany k (λ g. (lead, refl, ap (λ y. Name y) (among_text all_leads x lead f), g)) e
+fault_is Object s (Name x) k e = not_met (fits_name x) s s Object (Name x) kind.BadName k
+    (λ g. (x, refl, refl, g)) e
+fault_is Low s (Number v) k e = not_met (ltb v WIDTH_MAX) s s Low (Number v) kind.BadNumber k
+    (λ g. (v, refl, g)) e
+fault_is (High low) s (Number v) k e = not_met (ltb low v && leb v WIDTH_MAX) s s (High low)
+    (Number v) kind.BadNumber k (λ g. (v, refl, g)) e
+fault_is Bound s (Number v) k e = not_met (ltb v (2 ^ 128)) s s Bound (Number v) kind.BadNumber k
+    (λ g. (v, refl, g)) e
+fault_is Open s Other k e = cc
+fault_is AtName s Other k e = cc
+fault_is (AtLow low) s Other k e = cc
+fault_is AtHigh s Other k e = cc
+fault_is AtBits s Other k e = cc
+fault_is Between s Other k e = cc
+fault_is Close s Other k e = cc
+fault_is _ s _ k e = cc
 
 -- the kinds that are told of a token that the grammar allows
-abbrev IsAllowed : QueryKind → Type 0
-IsAllowed kind.BadName = Unit {0}
-IsAllowed kind.BadNumber = Unit {0}
-IsAllowed kind.TooMany = Unit {0}
-IsAllowed kind.Lex = ⊥
-IsAllowed kind.Syntax = ⊥
+abbrev IsRule : QueryKind → Type 0
+IsRule kind.Lex = ⊥
+IsRule kind.Syntax = ⊥
+IsRule k = Unit {0}
 
-record Stop (wanted : List Wanted) (s : Begun) (pieces : List Piece) (b : Breach) : Type 0 where
-  before : List Piece
-  token : Piece
-  others : List Piece
-  w : Wanted
-  stack : List Wanted
-  begun : Begun
-  parts : pieces ≡ before ++ token ∷ others
-  place : b.at ≡ Some token.0
-  walk : Walk wanted (w ∷ stack) s begun (bare_words before)
-  wrong : Fault w begun token.1 b.kind
+fault_of : (items : List Item) (b : Breach QueryKind) (k : QueryKind) → IsRule k
+    → breach_of (Start ∷ []) none_begun items ≡ Some b → b.kind ≡ k
+    → (at : At items b) × Fault at.w at.stands (queries.seen at.token) k
+fault_of items b k rule h e =
+    let at : At items b = rule_broken queries (Start ∷ []) none_begun items b h
+    (λ f. subst IsRule (sym e ∙ f) rule) (λ f. subst IsRule (sym e ∙ f) rule) in (
+      at,
+      subst (Fault at.w at.stands (queries.seen at.token)) e
+          (fault_is at.w at.stands (queries.seen at.token) b.kind at.breaks),
+    )
 
-stop_later : (w : Wanted) (wanted front : List Wanted) (s t : Begun) (p : Piece)
-    (pieces : List Piece) (b : Breach) → OneRead w wanted s p.1 front t
-    → Stop (front ++ wanted) t pieces b → Stop (w ∷ wanted) s (p ∷ pieces) b
-stop_later w wanted front s t p pieces b one stop = record {
-  before = p ∷ stop.before;
-  token = stop.token;
-  others = stop.others;
-  w = stop.w;
-  stack = stop.stack;
-  begun = stop.begun;
-  parts = ap (λ (ps : List Piece). p ∷ ps) stop.parts;
-  place = stop.place;
-  walk = one_before w wanted (stop.w ∷ stop.stack) front s t stop.begun p.1
-      (bare_words stop.before) one stop.walk;
-  wrong = stop.wrong;
-}
-
-stop_here : (w : Wanted) (wanted : List Wanted) (s : Begun) (p : Piece) (pieces : List Piece)
-    (k : QueryKind) → Fault w s p.1 k
-    → Stop (w ∷ wanted) s (p ∷ pieces) (record { at = Some p.0; kind = k })
-stop_here w wanted s p pieces k wrong = record {
-  before = [];
-  token = p;
-  others = pieces;
-  w = w;
-  stack = wanted;
-  begun = s;
-  parts = refl;
-  place = refl;
-  walk = nothing_read (w ∷ wanted) s;
-  wrong = wrong;
-}
-
-stop_case : (w : Wanted) (wanted : List Wanted) (s : Begun) (p : Piece) (pieces : List Piece)
-    (b : Breach) (r : Stepped) → Tells w s p.1 r
-    → ((front : List Wanted) (t : Begun) → breach_of (front ++ wanted) t pieces ≡ Some b
-    → Stop (front ++ wanted) t pieces b)
-    → after_token r p.0 (λ front t. breach_of (front ++ wanted) t pieces) ≡ Some b
-    → Stop (w ∷ wanted) s (p ∷ pieces) b
-stop_case w wanted s p pieces b (Ok r) tells go h =
-    stop_later w wanted r.0 s r.1 p pieces b (tells wanted) (go r.0 r.1 h)
-stop_case w wanted s p pieces b (Err k) tells go h =
-    subst (Stop (w ∷ wanted) s (p ∷ pieces))
-    (same_breach (record { at = Some p.0; kind = k }) b h)
-    (stop_here w wanted s p pieces k tells)
-
-not_spare : (word : Word) → IsAllowed (spare word) → ⊥
-not_spare Stranger h = h
-not_spare (Name name) h = h
-not_spare (Number v) h = h
-not_spare Opens h = h
-not_spare Closes h = h
-not_spare Comma h = h
-not_spare OpensBits h = h
-not_spare Colon h = h
-not_spare ClosesBits h = h
-not_spare Other h = h
-
-abbrev kind_in : Breach → QueryKind
-kind_in b = b.kind
-
-stops : (pieces : List Piece) (wanted : List Wanted) (s : Begun) (b : Breach)
-    → breach_of wanted s pieces ≡ Some b → IsAllowed b.kind → Stop wanted s pieces b
-unfolding breach_of
-stops [] [] s b h k = absurd (cc)
-stops [] (w ∷ wanted) s b h k =
-    let e = same_breach (record { at = None; kind = kind.Syntax }) b h in
-    absurd (subst IsAllowed (sym (ap kind_in e)) k)
-stops (p ∷ pieces) [] s b h k =
-    let e = same_breach (record { at = Some p.0; kind = spare p.1 }) b h in
-    absurd (not_spare p.1 (subst IsAllowed (sym (ap kind_in e)) k))
-stops (p ∷ pieces) (w ∷ wanted) s b h k =
-    stop_case w wanted s p pieces b (step w s p.1) (step_tells w s p.1)
-    (λ front t e. stops pieces (front ++ wanted) t b e k) h
-
-stands : (wanted : List Wanted) (s : Begun) (pieces : List Piece) (b : Breach) (word : Word)
-    (stop : Stop wanted s pieces b) → word ≡ stop.token.1
-    → StandsAt pieces b.at (bare_words stop.before) word
-stands wanted s pieces b word stop e = record {
-  front = stop.before;
-  token = stop.token;
-  others = stop.others;
-  parts = stop.parts;
-  place = stop.place;
-  before_is = refl;
-  word_is = e;
-}
-
--- where the grammar allows more after these tokens
-viable_with : (words more : List Word) (stack rest : List Wanted)
-    → allowed (Start ∷ []) words ≡ Some stack → allowed stack more ≡ Some rest
-    → IsViable (words ++ more)
-viable_with words more stack rest e f =
-    viable (words ++ more) rest (allowed-append words more (Start ∷ [])
-    ∙ ap (λ (o : Option (List Wanted)). and_on o (λ t. allowed t more)) e ∙ f)
-
-abbrev Start_of : List Piece → Breach → Type 0
-Start_of pieces b = Stop (Start ∷ []) none_begun pieces b
-
-fault_of : (pieces : List Piece) (b : Breach) (k : QueryKind) → IsAllowed k
-    → breach_of (Start ∷ []) none_begun pieces ≡ Some b → b.kind ≡ k → Start_of pieces b
-fault_of pieces b k allow h e =
-    stops pieces (Start ∷ []) none_begun b h (subst IsAllowed (sym e) allow)
-
-pub name_faults : (pieces : List Piece) (b : Breach)
-    → breach_of (Start ∷ []) none_begun pieces ≡ Some b → b.kind ≡ kind.BadName
-    → BreaksName pieces b.at
-name_faults pieces b h e =
-    let stop = fault_of pieces b kind.BadName tt h e in
-    let wrong : Fault stop.w stop.begun stop.token.1 kind.BadName =
-    subst (Fault stop.w stop.begun stop.token.1) e stop.wrong in
-    let ok : allowed (Start ∷ []) (bare_words stop.before) ≡ Some (Object ∷ stop.stack) =
-    subst (λ (w : Wanted). allowed (Start ∷ []) (bare_words stop.before) ≡ Some (w ∷ stop.stack))
-    wrong.1 stop.walk.ok in
+pub name_faults : (items : List Item) (b : Breach QueryKind)
+    → breach_of (Start ∷ []) none_begun items ≡ Some b → b.kind ≡ kind.BadName
+    → BreaksName items b.at
+unfolding allowed
+name_faults items b h e =
+    let (at, wrong) = fault_of items b kind.BadName tt h e in
     record {
-      before = bare_words stop.before;
+      before = all_seen queries at.before;
       name = wrong.0;
-      stands = stands (Start ∷ []) none_begun pieces b (Name wrong.0) stop (sym wrong.2);
-      viable = viable_with (bare_words stop.before) (Name wrong.0 ∷ []) (Object ∷ stop.stack)
-          (AtName ∷ stop.stack) ok refl;
+      stands = stands items b (Name wrong.0) at (sym wrong.2);
+      viable = viable_with items b at (Name wrong.0 ∷ []) (AtName ∷ at.stack)
+          (ap (λ (w : Wanted). allowed queries false (w ∷ at.stack) (Name wrong.0 ∷ [])) wrong.1);
       long = wrong.3;
     }
 
@@ -624,56 +418,35 @@ wrong_is_bad : (w : Wanted) (v : ℕ) (past : List Word) → Follows w past → 
 wrong_is_bad Low v past f h = rw (f.1) (over v WIDTH_MAX h)
 wrong_is_bad (High low) v past f h = rw (f.1) (not_between low v WIDTH_MAX h)
 wrong_is_bad Bound v past f h = rw (f.1) (over v (2 ^ 128) h)
-wrong_is_bad Start v past f h = absurd h
-wrong_is_bad Open v past f h = absurd h
-wrong_is_bad Object v past f h = absurd h
-wrong_is_bad AtName v past f h = absurd h
-wrong_is_bad (AtLow low) v past f h = absurd h
-wrong_is_bad AtHigh v past f h = absurd h
-wrong_is_bad AtBits v past f h = absurd h
-wrong_is_bad Between v past f h = absurd h
-wrong_is_bad Close v past f h = absurd h
+wrong_is_bad _ v past f h = absurd h
 
 -- the grammar allows a number there
 wrong_allowed : (w : Wanted) (v : ℕ) (stack : List Wanted) → IsWrong w v → (rest : List Wanted)
-    × (allowed (w ∷ stack) (Number v ∷ []) ≡ Some rest)
+    × (allowed queries false (w ∷ stack) (Number v ∷ []) ≡ Some rest)
+unfolding allowed
 wrong_allowed Low v stack h = (AtLow v ∷ stack, refl)
 wrong_allowed (High low) v stack h = (AtHigh ∷ stack, refl)
 wrong_allowed Bound v stack h = (stack, refl)
-wrong_allowed Start v stack h = absurd h
-wrong_allowed Open v stack h = absurd h
-wrong_allowed Object v stack h = absurd h
-wrong_allowed AtName v stack h = absurd h
-wrong_allowed (AtLow low) v stack h = absurd h
-wrong_allowed AtHigh v stack h = absurd h
-wrong_allowed AtBits v stack h = absurd h
-wrong_allowed Between v stack h = absurd h
-wrong_allowed Close v stack h = absurd h
+wrong_allowed _ v stack h = absurd h
 
-pub number_faults : (pieces : List Piece) (b : Breach)
-    → breach_of (Start ∷ []) none_begun pieces ≡ Some b → b.kind ≡ kind.BadNumber
-    → BreaksNumber pieces b.at
-number_faults pieces b h e =
-    let stop = fault_of pieces b kind.BadNumber tt h e in
-    let wrong : Fault stop.w stop.begun stop.token.1 kind.BadNumber =
-    subst (Fault stop.w stop.begun stop.token.1) e stop.wrong in
-    let words = bare_words stop.before in
-    let may = wrong_allowed stop.w wrong.0 stop.stack wrong.2 in
-    let fitting = stop.walk.fitting [] (tt, tt) in
-    let past : behind words [] ≡ reverse words =
-    behind_reverse words [] ∙ append-nil (reverse words) in
+pub number_faults : (items : List Item) (b : Breach QueryKind)
+    → breach_of (Start ∷ []) none_begun items ≡ Some b → b.kind ≡ kind.BadNumber
+    → BreaksNumber items b.at
+number_faults items b h e =
+    let (at, wrong) = fault_of items b kind.BadNumber tt h e in
+    let may = wrong_allowed at.w wrong.0 at.stack wrong.2 in
     record {
-      before = words;
+      before = all_seen queries at.before;
       number = wrong.0;
-      stands = stands (Start ∷ []) none_begun pieces b (Number wrong.0) stop (sym wrong.1);
-      viable = viable_with words (Number wrong.0 ∷ []) (stop.w ∷ stop.stack) may.0 stop.walk.ok
-          may.1;
-      bad = subst (λ ws. is_bad ws wrong.0 ≡ true) past
-          (wrong_is_bad stop.w wrong.0 (behind words []) fitting.0 wrong.2);
+      stands = stands items b (Number wrong.0) at (sym wrong.1);
+      viable = viable_with items b at (Number wrong.0 ∷ []) may.0 may.1;
+      bad = wrong_is_bad at.w wrong.0 (reverse (all_seen queries at.before))
+          (kept_at items b at).fitting.0 wrong.2;
     }
 
 lead_allowed : (lead : Lead) (stack : List Wanted) → (rest : List Wanted)
-    × (allowed (Start ∷ stack) (Name (lead_text lead) ∷ Opens ∷ []) ≡ Some rest)
+    × (allowed queries false (Start ∷ stack) (Name (lead_text lead) ∷ Opens ∷ []) ≡ Some rest)
+unfolding allowed
 lead_allowed (Compares op) stack = (
   Object ∷ Close ∷ stack,
   rw (lead_is (Compares op)) refl,
@@ -718,37 +491,39 @@ counted nodes tests opened named more e f (inl n) = inl (e ∙ n)
 counted nodes tests opened named more e f (inr t) =
     let l = t.1 in inr (t.0, omega (arith, e, f, l))
 
-pub count_faults : (pieces : List Piece) (b : Breach)
-    → breach_of (Start ∷ []) none_begun pieces ≡ Some b → b.kind ≡ kind.TooMany
-    → BreaksCount pieces b.at
-count_faults pieces b h e =
-    let stop = fault_of pieces b kind.TooMany tt h e in
-    let wrong : Fault stop.w stop.begun stop.token.1 kind.TooMany =
-    subst (Fault stop.w stop.begun stop.token.1) e stop.wrong in
-    let words = bare_words stop.before in
-    let walk : Walk (Start ∷ []) (Start ∷ stop.stack) none_begun stop.begun words =
-    subst (λ (w : Wanted). Walk (Start ∷ []) (w ∷ stop.stack) none_begun stop.begun words)
-    wrong.1 stop.walk in
-    let tidy = walk.tidy (refl, refl, tt) in
-    let nodes = walk.nodes in
-    let names = walk.names in
-    let none_open = tidy.0 in
-    let none_named = tidy.1 in
-    let opened : count_by is_opening words ≡ stop.begun.nodes =
-    omega (arith, nodes, none_open) in
-    let named : count_by is_name words ≡ stop.begun.nodes + stop.begun.tests =
-    omega (arith, names, none_named) in
+count_reverse : (test : Word → Bool) (words : List Word)
+    → count_by test (reverse words) ≡ count_by test words
+count_reverse test words = sum_by-IsPermutation (λ (w : Word). cond (test w) 1 0) words
+    (reverse words) (IsPermutation-reverse words)
+
+pub count_faults : (items : List Item) (b : Breach QueryKind)
+    → breach_of (Start ∷ []) none_begun items ≡ Some b → b.kind ≡ kind.TooMany
+    → BreaksCount items b.at
+count_faults items b h e =
+    let (at, wrong) = fault_of items b kind.TooMany tt h e in
+    let words = all_seen queries at.before in
+    let k : Kept (reverse words) (Start ∷ at.stack) at.stands =
+    subst (λ (w : Wanted). Kept (reverse words) (w ∷ at.stack) at.stands) wrong.1
+    (kept_at items b at) in
+    let nodes = k.nodes in
+    let names = k.names in
+    let none_open = k.tidy.0 in
+    let none_named = k.tidy.1 in
+    let all_open = count_reverse is_opening words in
+    let all_named = count_reverse is_name words in
     let lead = wrong.0 in
-    let may = lead_allowed lead stop.stack in
+    let may = lead_allowed lead at.stack in
     record {
       before = words;
       lead = lead;
-      stands = stands (Start ∷ []) none_begun pieces b (Name (lead_text lead)) stop
-          (sym wrong.2);
-      viable = viable_with words (Name (lead_text lead) ∷ Opens ∷ []) (Start ∷ stop.stack) may.0
-          walk.ok may.1;
-      full = counted stop.begun.nodes stop.begun.tests (count_by is_opening words)
-          (count_by is_name words) (tests_in lead) opened named
-          (few_before stop.begun.nodes stop.begun.tests (tests_in lead) (one_test lead)
-          (walk.fit refl) wrong.3);
+      stands = stands items b (Name (lead_text lead)) at (sym wrong.2);
+      viable = viable_with items b at (Name (lead_text lead) ∷ Opens ∷ []) may.0
+          (ap (λ (w : Wanted). allowed queries false (w ∷ at.stack) (Name (lead_text lead) ∷ Opens
+          ∷ [])) wrong.1 ∙ may.1);
+      full = counted at.stands.nodes at.stands.tests (count_by is_opening words)
+          (count_by is_name words) (tests_in lead)
+          (omega (arith, all_open, nodes, none_open))
+          (omega (arith, all_named, names, none_named))
+          (few_before at.stands.nodes at.stands.tests (tests_in lead) (one_test lead) k.fit
+          wrong.3);
     }

@@ -2,6 +2,10 @@
 use Rattle.std.proofs.Common.{◌≡◌, ℕ, true, false, List, [], ◌∷◌, map, Some, None}
 use Rattle.std.proofs.Common.{refl}
 use Rattle.std.specs.Prelude.{codes}
+use Rattle.text_lex.specs.declared.token.TokenKind.{TokenKind}
+use Rattle.text_lex.specs.declared.token.TokenKind.TheVariants.{Name, Number, Symbol}
+use Rattle.text_lex.specs.Lexical.{Item, Whole as Read, Bad}
+use Rattle.grammar.specs.Machine as machine
 use Rattle.object_alloc.specs.Listed.{Named}
 use Rattle.bbop_isa.specs.Forms.{Init, Bbop, Fill, Free, whole}
 use Rattle.scan_model.specs.declared.CmpOp.TheVariants as cmp
@@ -11,8 +15,7 @@ use Rattle.scan_model.specs.Queries.{Whole, Bit, Bits, Query, Compare, Negate, B
 use Rattle.scan_model.specs.Queries.{matches, nodes_of}
 use Rattle.scan_model.specs.Instructions.{script_from}
 use Rattle.scan_model.specs.Checks.{checked}
-use Rattle.scan_model.specs.Texts.{Start, breach_of, none_begun, Name, Number, Opens, Closes}
-use Rattle.scan_model.specs.Texts.{OpensBits, Colon, Stranger}
+use Rattle.scan_model.specs.Texts.{Start, breach_of, none_begun}
 
 abbrev a : List ℕ
 a = codes "a"
@@ -71,25 +74,30 @@ slice = refl
 narrow : checked table (nodes_of (Compare cmp.Eq (Bits a 4 8) 16)) ≡ Some (scan.Range, 0)
 narrow = refl
 
+token : ℕ → TokenKind → List ℕ → Item
+token start kind text = Read (record { kind = kind; text = text; start = start })
+
 -- eq(a[3:3], ..
-empty : breach_of (Start ∷ []) none_begun ((0, Name (codes "eq")) ∷ (2, Opens) ∷ (3, Name a)
-    ∷ (4, OpensBits) ∷ (5, Number 3) ∷ (6, Colon) ∷ (7, Number 3) ∷ [])
+empty : breach_of (Start ∷ []) none_begun (token 0 Name (codes "eq") ∷ token 2 Symbol (codes "(")
+    ∷ token 3 Name a ∷ token 4 Symbol (codes "[") ∷ token 5 Number (codes "3")
+    ∷ token 6 Symbol (codes ":") ∷ token 7 Number (codes "3") ∷ [])
     ≡ Some (record { at = Some 7; kind = kind.BadNumber })
-unfolding breach_of
+unfolding machine.breach_of token
 empty = refl
 
 -- eq(a)
-short : breach_of (Start ∷ []) none_begun ((0, Name (codes "eq")) ∷ (2, Opens) ∷ (3, Name a)
-    ∷ (4, Closes) ∷ []) ≡ Some (record { at = Some 4; kind = kind.Syntax })
-unfolding breach_of
+short : breach_of (Start ∷ []) none_begun (token 0 Name (codes "eq") ∷ token 2 Symbol (codes "(")
+    ∷ token 3 Name a ∷ token 4 Symbol (codes ")") ∷ [])
+    ≡ Some (record { at = Some 4; kind = kind.Syntax })
+unfolding machine.breach_of token
 short = refl
 
-early : breach_of (Start ∷ []) none_begun ((0, Name (codes "not")) ∷ (3, Opens) ∷ [])
-    ≡ Some (record { at = None; kind = kind.Syntax })
-unfolding breach_of
+early : breach_of (Start ∷ []) none_begun (token 0 Name (codes "not")
+    ∷ token 3 Symbol (codes "(") ∷ []) ≡ Some (record { at = None; kind = kind.Syntax })
+unfolding machine.breach_of token
 early = refl
 
-stranger : breach_of (Start ∷ []) none_begun ((0, Stranger) ∷ [])
+stranger : breach_of (Start ∷ []) none_begun (Bad (record { at = 0; byte = 36 }) ∷ [])
     ≡ Some (record { at = Some 0; kind = kind.Lex })
-unfolding breach_of
+unfolding machine.breach_of
 stranger = refl

@@ -1,6 +1,6 @@
 -- The text of a query, token by token.
-use Rattle.std.specs.Prelude.{option_map, ℕ, ◌+◌, ◌^◌, nat_lt, nat_le, Bool, ◌&&◌}
-use Rattle.std.specs.Prelude.{List, [], ◌∷◌, ◌++◌, map, Option, Some, None, Result, Ok, Err}
+use Rattle.std.specs.Prelude.{option_map, ℕ, ◌+◌, ◌^◌, nat_lt, nat_le, Bool, false, ◌&&◌}
+use Rattle.std.specs.Prelude.{List, [], ◌∷◌, Option, Some, None, Result, Ok, Err}
 use Rattle.std.specs.Prelude.{bytes_eq, codes}
 use Rattle.std.specs.Prelude.{if◌then◌else◌}
 use Rattle.std.specs.Str.Parse.{digits_value}
@@ -9,6 +9,9 @@ use Rattle.text_lex.specs.Lexical.{Item, Whole as Read, Bad, items_of}
 use Rattle.text_lex.specs.Spelled.{fits_name}
 use Rattle.text_lex.specs.declared.token.TokenKind.{TokenKind}
 use Rattle.text_lex.specs.declared.token.TokenKind.TheVariants as kinds
+use Rattle.grammar.specs.declared.Breach.{Breach}
+use Rattle.grammar.specs.Machine as machine
+use Rattle.grammar.specs.Machine.{Language}
 use Rattle.scan_model.specs.declared.CmpOp.{CmpOp}
 use Rattle.scan_model.specs.declared.CmpOp.TheVariants as cmp
 use Rattle.op_text.specs.Lines.{line_of}
@@ -47,14 +50,10 @@ word_at kinds.Name text = Name text
 word_at kinds.Number text = Number (digits_value 10 text)
 word_at kinds.Symbol text = symbol_of text
 
--- a word and its place
-abbrev pub Piece : Type 0
-Piece = ℕ × Word
-
--- a token, or a byte that starts none, with its place
-abbrev pub piece_of : Item → Piece
-piece_of (Read t) = (t.start, word_at t.kind t.text)
-piece_of (Bad f) = (f.at, Stranger)
+-- an item as a query sees it
+abbrev pub word_of : Item → Word
+word_of (Read t) = word_at t.kind t.text
+word_of (Bad f) = Stranger
 
 -- what a query begins with
 pub data Lead : Type 0 where
@@ -128,75 +127,72 @@ with_lead s lead = record { nodes = s.nodes + 1; tests = s.tests + tests_in lead
 abbrev pub fits : Begun → Bool
 fits s = nat_le s.nodes 64 && nat_le s.tests 32
 
--- what one token comes to: what is wanted after it and what has begun, or the rule that it breaks
-abbrev pub Stepped : Type 0
-Stepped = Result (List Wanted × Begun) QueryKind
+-- a rule: where it is met, the token is taken
+abbrev pub checked : Bool → Begun → QueryKind → Result Begun QueryKind
+checked right s kind = if right then Ok s else Err kind
 
--- a node begins, unless the name begins none or there are too many
-abbrev pub started : Begun → Option Lead → Stepped
-started s None = Err Syntax
-started s (Some lead) = if fits (with_lead s lead)
-    then Ok (wanted_after lead, with_lead s lead) else Err TooMany
+-- a node begins, unless there are too many
+abbrev pub started : Begun → Option Lead → Result Begun QueryKind
+started s None = Ok s
+started s (Some lead) = checked (fits (with_lead s lead)) (with_lead s lead) TooMany
+
+-- What the grammar wants after a token, before all that it wanted for later; or none, where it
+-- does not allow the token.
+abbrev pub follow : Wanted → Word → Option (List Wanted)
+follow Start (Name text) = option_map wanted_after (lead_among all_leads text)
+follow Open Opens = Some []
+follow Object (Name text) = Some (AtName ∷ [])
+follow AtName Comma = Some (Bound ∷ [])
+follow AtName OpensBits = Some (Low ∷ [])
+follow Low (Number v) = Some (AtLow v ∷ [])
+follow (AtLow low) ClosesBits = Some (AtBits ∷ [])
+follow (AtLow low) Colon = Some (High low ∷ [])
+follow (High low) (Number v) = Some (AtHigh ∷ [])
+follow AtHigh ClosesBits = Some (AtBits ∷ [])
+follow AtBits Comma = Some (Bound ∷ [])
+follow Between Comma = Some []
+follow Bound (Number v) = Some []
+follow Close Closes = Some []
+follow w word = None
+
+-- the rules beside the grammar's at a token that it allows
+abbrev pub rules_at : Wanted → Begun → Word → Result Begun QueryKind
+rules_at Start s (Name text) = started s (lead_among all_leads text)
+rules_at Object s (Name text) = checked (fits_name text) s BadName
+rules_at Low s (Number v) = checked (nat_lt v WIDTH_MAX) s BadNumber
+rules_at (High low) s (Number v) = checked (nat_lt low v && nat_le v WIDTH_MAX) s BadNumber
+rules_at Bound s (Number v) = checked (nat_lt v (2 ^ 128)) s BadNumber
+rules_at w s word = Ok s
+
+-- Queries, as a language. No token rests on the next.
+abbrev pub queries : Language Wanted Word Begun QueryKind
+queries = record {
+  seen = λ t. word_at t.kind t.text;
+  opens = λ word. false;
+  follow = λ w word opened. follow w word;
+  rules = λ w s t opened. rules_at w s (word_at t.kind t.text);
+  first = Start;
+  may_end = λ w. false;
+  lex = Lex;
+  syntax = Syntax;
+}
 
 -- the next token, where this is wanted: what is wanted in its place, or the first rule that it
 -- breaks
-abbrev pub step : Wanted → Begun → Word → Stepped
-step w s Stranger = Err Lex
-step Start s (Name text) = started s (lead_among all_leads text)
-step Open s Opens = Ok ([], s)
-step Object s (Name text) = if fits_name text then Ok (AtName ∷ [], s) else Err BadName
-step AtName s Comma = Ok (Bound ∷ [], s)
-step AtName s OpensBits = Ok (Low ∷ [], s)
-step Low s (Number v) = if nat_lt v WIDTH_MAX then Ok (AtLow v ∷ [], s) else Err BadNumber
-step (AtLow low) s ClosesBits = Ok (AtBits ∷ [], s)
-step (AtLow low) s Colon = Ok (High low ∷ [], s)
-step (High low) s (Number v) = if nat_lt low v && nat_le v WIDTH_MAX then Ok (AtHigh ∷ [], s)
-    else Err BadNumber
-step AtHigh s ClosesBits = Ok (AtBits ∷ [], s)
-step AtBits s Comma = Ok (Bound ∷ [], s)
-step Between s Comma = Ok ([], s)
-step Bound s (Number v) = if nat_lt v (2 ^ 128) then Ok ([], s) else Err BadNumber
-step Close s Closes = Ok ([], s)
-step w s word = Err Syntax
-
--- a rule that is broken, and the place of the token, or none at the end of the text
-pub record Breach : Type 0 where
-  pub at : Option ℕ
-  pub kind : QueryKind
-
--- the end of the text, which is a fault where something is still wanted
-abbrev pub ended : List Wanted → Option Breach
-ended [] = None
-ended (w ∷ wanted) = Some (record { at = None; kind = Syntax })
-
--- a token after a whole query
-abbrev pub spare : Word → QueryKind
-spare Stranger = Lex
-spare word = Syntax
-
--- what follows a token that breaks no rule; one that does is the first breach
-abbrev pub after_token : Stepped → ℕ → (List Wanted → Begun → Option Breach) → Option Breach
-after_token (Ok r) at go = go r.0 r.1
-after_token (Err kind) at go = Some (record { at = Some at; kind = kind })
+abbrev pub step : Wanted → Begun → Word → Result (List Wanted × Begun) QueryKind
+step w s word = machine.with_rules Syntax (follow w word) (rules_at w s word)
 
 -- the first token that breaks a rule
-unfoldable pub breach_of : List Wanted → Begun → List Piece → Option Breach
-breach_of wanted s [] = ended wanted
-breach_of [] s (p ∷ pieces) = Some (record { at = Some p.0; kind = spare p.1 })
-breach_of (w ∷ wanted) s (p ∷ pieces) = after_token (step w s p.1) p.0
-    (λ front t. breach_of (front ++ wanted) t pieces)
+abbrev pub breach_of : List Wanted → Begun → List Item → Option (Breach QueryKind)
+breach_of wanted s items = machine.breach_of queries wanted s items
 
 -- what has begun before the first token
 abbrev pub none_begun : Begun
 none_begun = record { nodes = 0; tests = 0 }
 
--- the tokens of a text with their places
-abbrev pub pieces_of : List ℕ → List Piece
-pieces_of text = map piece_of (items_of text)
-
 -- the first token of a text that breaks a rule, if any
-abbrev pub first_breach : List ℕ → Option Breach
-first_breach text = breach_of (Start ∷ []) none_begun (pieces_of text)
+abbrev pub first_breach : List ℕ → Option (Breach QueryKind)
+first_breach text = breach_of (Start ∷ []) none_begun (items_of text)
 
 -- the fault of a text by its line, as in operation texts, or none where it is accepted
 abbrev pub fault_in : List ℕ → Option QueryFault

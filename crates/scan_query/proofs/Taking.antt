@@ -2,15 +2,21 @@
 use Rattle.std.proofs.Common.{◌≡◌, ℕ, Bool, true, false, ◌&&◌, List, [], ◌∷◌, ◌++◌, Option, Some}
 use Rattle.std.proofs.Common.{None}
 use Rattle.std.proofs.Common.{Result, Ok, Err, cond, refl, sym, ap, ◌∙◌, subst}
+use Rattle.std.specs.Option.{option_map}
 use Rattle.std.specs.Result.{IsErrAnd}
 use Rattle.std.specs.List.{AllByRecursion}
 use Rattle.std.proofs.lemmas.Result.{err_from_is_err_and}
 use Rattle.text_lex.specs.declared.token.TokenKind.{TokenKind}
 use Rattle.text_lex.specs.declared.token.TokenKind.TheVariants as kinds
-use Rattle.text_lex.specs.Lexical.{Item, Whole, Bad, IsRight, is_token}
+use Rattle.text_lex.specs.declared.token.LexFault.{LexFault}
+use Rattle.text_lex.specs.declared.token.Token.{Token}
+use Rattle.text_lex.specs.Lexical.{Item, Whole, Bad, IsRight, is_token, lexeme_of}
 use Rattle.scan_model.specs.declared.QueryKind.{QueryKind}
 use Rattle.scan_model.specs.declared.QueryKind.TheVariants as kind
 use Rattle.scan_model.specs.Texts as model
+use Rattle.grammar.specs.declared.Breach.{Breach}
+use Rattle.grammar.specs.Machine as machine
+use Rattle.grammar.proofs.Steps.{moved, refused}
 use Rattle.scan_query.specs.declared.reading.Mark.{Mark}
 use Rattle.scan_query.specs.declared.reading.Mark.TheVariants as mark
 use Rattle.scan_query.specs.declared.reading.ReadError.{ReadError}
@@ -20,8 +26,8 @@ use Rattle.scan_query.specs.Digits.{are_digits, is_written}
 use Rattle.scan_query.specs.Reading.{Fails, MovesTo, ParserView, Took, after_mark, breach, is_it}
 use Rattle.scan_query.specs.Reading.{lead_at, wanted_by, word_view}
 
-pub fails_along : {a b : Option model.Breach} (e : ReadError) → a ≡ b → Fails b e → Fails a e
-fails_along e h f = let P : Option model.Breach → Type 0 = λ x. Fails x e in subst P (sym h) f
+pub fails_along : {a b : Option (Breach QueryKind)} (e : ReadError) → a ≡ b → Fails b e → Fails a e
+fails_along e h f = let P : Option (Breach QueryKind) → Type 0 = λ x. Fails x e in subst P (sym h) f
 
 -- The exit of a `?`.
 pub exits : {A : Type 0} (front : List model.Wanted) (old : ParserView) (e : ReadError)
@@ -34,81 +40,45 @@ exits front old e r following new is h =
     rw (p.1, p.2) h
 
 -- at the end of the text, and at a byte that starts no token
-pub ends : (old : ParserView) → old.pieces ≡ [] → (want : model.Wanted) (more : List model.Wanted)
+pub ends : (old : ParserView) → old.items ≡ [] → (want : model.Wanted) (more : List model.Wanted)
     → breach (want ∷ more) old ≡ Some (record { at = None; kind = kind.Syntax })
-unfolding model.breach_of
+unfolding machine.breach_of
 ends old e want more = rw e refl
+
+pub strange : (old : ParserView) (f : LexFault) → old.items ≡ Bad f ∷ []
+    → (want : model.Wanted) (more : List model.Wanted)
+    → breach (want ∷ more) old ≡ Some (record { at = Some f.at; kind = kind.Lex })
+unfolding machine.breach_of
+strange old f e want more = rw e refl
 
 -- what a token comes to
 pub breaks : (old new : ParserView) (w : model.Word) (at : ℕ) (want : model.Wanted)
-    (found : QueryKind) → old.pieces ≡ (at, w) ∷ new.pieces
-    → model.step want old.begun w ≡ Err found → (more : List model.Wanted)
+    (found : QueryKind) → Took w at old new → model.step want old.begun w ≡ Err found
+    → (more : List model.Wanted)
     → breach (want ∷ more) old ≡ Some (record { at = Some at; kind = found })
-unfolding model.breach_of
-breaks old new w at want found e h more = rw (e, h) refl
+breaks old new w at want found took h more =
+    refused model.queries want old.begun old.items took.token new.items found took.items
+    (ap (model.step want old.begun) (sym took.is) ∙ h) more
+    ∙ ap (λ (n : ℕ). Some (record { at = Some n; kind = found })) took.place
 
-pub strange : (old new : ParserView) (at : ℕ) → old.pieces ≡ (at, model.Stranger) ∷ []
-    → (want : model.Wanted) (more : List model.Wanted)
-    → breach (want ∷ more) old ≡ Some (record { at = Some at; kind = kind.Lex })
-unfolding model.breach_of
-strange old new at e want more = rw e refl
-
-pub goes : (old new : ParserView) (w : model.Word) (at : ℕ) (want : model.Wanted)
-    (front : List model.Wanted) → old.pieces ≡ (at, w) ∷ new.pieces
-    → model.step want old.begun w ≡ Ok (front, new.begun) → (more : List model.Wanted)
-    → breach (want ∷ more) old ≡ breach (front ++ more) new
-unfolding model.breach_of
-goes old new w at want front e h more = rw (e, h) refl
+goes : (old mid : ParserView) (w : model.Word) (at : ℕ) (want : model.Wanted)
+    (front : List model.Wanted) (s : model.Begun) → Took w at old mid
+    → model.step want old.begun w ≡ Ok (front, s) → (more : List model.Wanted)
+    → breach (want ∷ more) old ≡ model.breach_of (front ++ more) s mid.items
+goes old mid w at want front s took h =
+    moved model.queries want old.begun old.items took.token mid.items front s took.items
+    (ap (model.step want old.begun) (sym took.is) ∙ h)
 
 -- the symbols
 mark_step : (m : Mark) (w : Word) (s : model.Begun)
     → model.step (wanted_by m) s (word_view w)
     ≡ cond (is_it m w) (Ok (after_mark m, s)) (Err kind.Syntax)
-mark_step mark.Opens (word.Name text) s = refl
-mark_step mark.Opens (word.Number digits) s = refl
-mark_step mark.Opens word.Opens s = refl
-mark_step mark.Opens word.Closes s = refl
-mark_step mark.Opens word.Comma s = refl
-mark_step mark.Opens word.OpensBits s = refl
-mark_step mark.Opens word.Colon s = refl
-mark_step mark.Opens word.ClosesBits s = refl
 mark_step mark.Opens word.Other s = refl
-mark_step mark.Closes (word.Name text) s = refl
-mark_step mark.Closes (word.Number digits) s = refl
-mark_step mark.Closes word.Opens s = refl
-mark_step mark.Closes word.Closes s = refl
-mark_step mark.Closes word.Comma s = refl
-mark_step mark.Closes word.OpensBits s = refl
-mark_step mark.Closes word.Colon s = refl
-mark_step mark.Closes word.ClosesBits s = refl
 mark_step mark.Closes word.Other s = refl
-mark_step mark.Comma (word.Name text) s = refl
-mark_step mark.Comma (word.Number digits) s = refl
-mark_step mark.Comma word.Opens s = refl
-mark_step mark.Comma word.Closes s = refl
-mark_step mark.Comma word.Comma s = refl
-mark_step mark.Comma word.OpensBits s = refl
-mark_step mark.Comma word.Colon s = refl
-mark_step mark.Comma word.ClosesBits s = refl
 mark_step mark.Comma word.Other s = refl
-mark_step mark.ClosesBits (word.Name text) s = refl
-mark_step mark.ClosesBits (word.Number digits) s = refl
-mark_step mark.ClosesBits word.Opens s = refl
-mark_step mark.ClosesBits word.Closes s = refl
-mark_step mark.ClosesBits word.Comma s = refl
-mark_step mark.ClosesBits word.OpensBits s = refl
-mark_step mark.ClosesBits word.Colon s = refl
-mark_step mark.ClosesBits word.ClosesBits s = refl
 mark_step mark.ClosesBits word.Other s = refl
-mark_step mark.EndsBits (word.Name text) s = refl
-mark_step mark.EndsBits (word.Number digits) s = refl
-mark_step mark.EndsBits word.Opens s = refl
-mark_step mark.EndsBits word.Closes s = refl
-mark_step mark.EndsBits word.Comma s = refl
-mark_step mark.EndsBits word.OpensBits s = refl
-mark_step mark.EndsBits word.Colon s = refl
-mark_step mark.EndsBits word.ClosesBits s = refl
 mark_step mark.EndsBits word.Other s = refl
+mark_step _ _ s = refl
 
 pub mark_right : (m : Mark) (w : Word) (s : model.Begun) → is_it m w ≡ true
     → model.step (wanted_by m) s (word_view w) ≡ Ok (after_mark m, s)
@@ -137,59 +107,67 @@ all_digits text (Whole t ∷ items) all = both (is_written t.kind t.text) (are_d
 all_digits text (Bad f ∷ items) all = all_digits text items all.1
 
 -- what a query begins with
-pub start_is : (w : Word) (s : model.Begun) (found : Option model.Lead) → lead_at w ≡ found
-    → model.step model.Start s (word_view w) ≡ model.started s found
-start_is (word.Name text) s found e = ap (model.started s) e
-start_is (word.Number digits) s found e = ap (model.started s) e
-start_is word.Opens s found e = ap (model.started s) e
-start_is word.Closes s found e = ap (model.started s) e
-start_is word.Comma s found e = ap (model.started s) e
-start_is word.OpensBits s found e = ap (model.started s) e
-start_is word.Colon s found e = ap (model.started s) e
-start_is word.ClosesBits s found e = ap (model.started s) e
-start_is word.Other s found e = ap (model.started s) e
+abbrev leads : model.Begun → Option model.Lead
+    → Result (List model.Wanted × model.Begun) QueryKind
+leads s found = machine.with_rules kind.Syntax (option_map model.wanted_after found)
+    (model.started s found)
 
-fits_case : (s : model.Begun) (l : model.Lead) (b : Bool)
-    → model.fits (model.with_lead s l) ≡ b → model.started s (Some l)
-    ≡ cond b (Ok (model.wanted_after l, model.with_lead s l)) (Err kind.TooMany)
-fits_case s l b e = ap (λ x. cond x (Ok (model.wanted_after l, model.with_lead s l)) (Err
-    kind.TooMany)) e
+start_is : (w : Word) (s : model.Begun) → model.step model.Start s (word_view w)
+    ≡ leads s (lead_at w)
+start_is (word.Name text) s = refl
+start_is _ s = refl
+
+-- the step of a word that begins a query, or none
+start_step : (w : Word) (old mid : ParserView) (at : ℕ) (found : Option model.Lead)
+    → Took (word_view w) at old mid → lead_at w ≡ found
+    → model.step model.Start old.begun (word_view w) ≡ leads mid.begun found
+start_step w old mid at found took e = start_is w old.begun ∙ ap (leads old.begun) e
+    ∙ ap (λ s. leads s found) (sym took.begun)
 
 pub start_goes : (w : Word) (old mid new : ParserView) (at : ℕ) (l : model.Lead)
     → Took (word_view w) at old mid → lead_at w ≡ Some l
     → model.fits (model.with_lead mid.begun l) ≡ true
-    → new.begun ≡ model.with_lead mid.begun l → new.pieces ≡ mid.pieces
+    → new.begun ≡ model.with_lead mid.begun l → new.items ≡ mid.items
     → (more : List model.Wanted)
     → breach (model.Start ∷ more) old ≡ breach (model.wanted_after l ++ more) new
-start_goes w old mid new at l took found fits begun pieces more =
-    goes old new (word_view w) at model.Start (model.wanted_after l)
-    (took.pieces ∙ ap (λ (ps : List model.Piece). (at, word_view w) ∷ ps) (sym pieces))
-    (start_is w old.begun (Some l) found
-    ∙ ap (λ s. model.started s (Some l)) (sym took.begun)
-    ∙ fits_case mid.begun l true fits
-    ∙ ap (λ s. Ok (model.wanted_after l, s)) (sym begun)) more
+start_goes w old mid new at l took found fits begun items more =
+    goes old mid (word_view w) at model.Start (model.wanted_after l)
+    (model.with_lead mid.begun l) took (start_step w old mid at (Some l) took found
+    ∙ rw fits refl) more
+    ∙ rw (begun, items) refl
 
 pub start_full : (w : Word) (old mid : ParserView) (at : ℕ) (l : model.Lead)
     → Took (word_view w) at old mid → lead_at w ≡ Some l
     → model.fits (model.with_lead mid.begun l) ≡ false → (more : List model.Wanted)
     → breach (model.Start ∷ more) old ≡ Some (record { at = Some at; kind = kind.TooMany })
 start_full w old mid at l took found fits more =
-    breaks old mid (word_view w) at model.Start kind.TooMany took.pieces
-    (start_is w old.begun (Some l) found
-    ∙ ap (λ s. model.started s (Some l)) (sym took.begun)
-    ∙ fits_case mid.begun l false fits) more
+    breaks old mid (word_view w) at model.Start kind.TooMany took
+    (start_step w old mid at (Some l) took found ∙ rw fits refl) more
 
 pub start_wrong : (w : Word) (old mid : ParserView) (at : ℕ) → Took (word_view w) at old mid
     → lead_at w ≡ None → (more : List model.Wanted)
     → breach (model.Start ∷ more) old ≡ Some (record { at = Some at; kind = kind.Syntax })
 start_wrong w old mid at took found more =
-    breaks old mid (word_view w) at model.Start kind.Syntax took.pieces
-    (start_is w old.begun None found) more
+    breaks old mid (word_view w) at model.Start kind.Syntax took
+    (start_step w old mid at None took found) more
 
 -- a word, and what is wanted after it
 pub token_goes : (w : model.Word) (old new : ParserView) (at : ℕ) (want : model.Wanted)
     (front : List model.Wanted) → Took w at old new
     → model.step want old.begun w ≡ Ok (front, old.begun)
     → (more : List model.Wanted) → breach (want ∷ more) old ≡ breach (front ++ more) new
-token_goes w old new at want front took e more = goes old new w at want front took.pieces
-    (e ∙ ap (λ s. Ok (front, s)) (sym took.begun)) more
+token_goes w old new at want front took e more =
+    goes old new w at want front old.begun took e more
+    ∙ ap (λ s. model.breach_of (front ++ more) s new.items) (sym took.begun)
+
+-- the token that was taken
+pub took_one : (t : Token) (w : Word) (old new : ParserView)
+    → old.items ≡ Whole (lexeme_of t) ∷ new.items → new.begun ≡ old.begun
+    → word_view w ≡ model.word_at t.kind t.text.now → Took (word_view w) t.start old new
+took_one t w old new items begun is = record {
+  token = lexeme_of t;
+  items = items;
+  is = is;
+  place = refl;
+  begun = begun;
+}

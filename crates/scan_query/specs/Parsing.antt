@@ -1,8 +1,9 @@
 -- What a text is parsed as.
 use Rattle.std.specs.Prelude.{◌≡◌, ℕ, List, Some, None, Result, Ok, Err}
+use Rattle.text_lex.specs.Lexical.{items_of}
 use Rattle.scan_model.specs.Queries as model
-use Rattle.scan_model.specs.Texts.{fault_in, pieces_of}
-use Rattle.scan_model.specs.TextLaws.{Says, bare_words}
+use Rattle.scan_model.specs.Texts.{fault_in}
+use Rattle.scan_model.specs.TextLaws.{Says, words_of}
 use Rattle.scan_query.specs.Queries.{IsNodesOf, nodes_in}
 use Rattle.scan_query.specs.declared.query.Query.{Query}
 use Rattle.scan_query.specs.declared.query.QueryNo.{QueryNo}
@@ -12,7 +13,7 @@ use Rattle.scan_query.specs.declared.query.QueryNo.TheVariants as no
 pub record IsQueryOf (text : List ℕ) (nodes : List model.Node) : Type 0 where
   pub accepted : fault_in text ≡ None
   pub tree : model.Query
-  pub says : Says (bare_words (pieces_of text)) tree
+  pub says : Says (words_of (items_of text)) tree
   pub nodes_are : IsNodesOf tree nodes
 
 -- What a text is parsed as: its query's nodes, where it breaks no rule; or the line and the kind of

@@ -8,8 +8,11 @@ use Rattle.scan_model.specs.Queries.{Node, And, Or, Query, nodes_from, last_from
 use Rattle.std.specs.Char.{is_ascii_digit}
 use Rattle.std.specs.List.{AllPass}
 use Rattle.std.specs.Str.Parse.{digits_value}
+use Rattle.text_lex.specs.Lexical.{Item, Lexeme, Whole, items_of}
+use Rattle.grammar.specs.declared.Breach.{Breach}
+use Rattle.scan_model.specs.declared.QueryKind.{QueryKind}
 use Rattle.scan_model.specs.Texts as model
-use Rattle.scan_model.specs.TextLaws.{bare_words}
+use Rattle.scan_model.specs.TextLaws.{words_of}
 use Rattle.scan_query.specs.declared.reading.Lead.{Lead}
 use Rattle.scan_query.specs.declared.reading.Lead.TheVariants as lead
 use Rattle.scan_query.specs.declared.reading.Mark.{Mark}
@@ -35,15 +38,8 @@ word_view word.Other = model.Other
 
 -- what a number is read of are digits
 abbrev pub IsNumber : Word → Type 0
-IsNumber (word.Name text) = Unit {0}
 IsNumber (word.Number digits) = AllPass is_ascii_digit digits.now
-IsNumber word.Opens = Unit {0}
-IsNumber word.Closes = Unit {0}
-IsNumber word.Comma = Unit {0}
-IsNumber word.OpensBits = Unit {0}
-IsNumber word.Colon = Unit {0}
-IsNumber word.ClosesBits = Unit {0}
-IsNumber word.Other = Unit {0}
+IsNumber w = Unit {0}
 
 -- the beginning of a query, as the definitions have it
 abbrev pub lead_of : Lead → model.Lead
@@ -59,14 +55,7 @@ after_lead l = model.wanted_after (lead_of l)
 -- which beginning of a query a token is
 abbrev pub lead_at : Word → Option model.Lead
 lead_at (word.Name text) = model.lead_among model.all_leads text.now
-lead_at (word.Number digits) = None
-lead_at word.Opens = None
-lead_at word.Closes = None
-lead_at word.Comma = None
-lead_at word.OpensBits = None
-lead_at word.Colon = None
-lead_at word.ClosesBits = None
-lead_at word.Other = None
+lead_at w = None
 
 -- where the grammar wants this symbol
 abbrev pub wanted_by : Mark → model.Wanted
@@ -96,10 +85,10 @@ word_by mark.EndsBits = model.Comma
 abbrev pub is_it : Mark → Word → Bool
 is_it m w = is_ok (model.step (wanted_by m) model.none_begun (word_view w))
 
--- what has begun, and the words that are left
+-- what has begun, and the items that are left
 pub record ParserView : Type 0 where
   pub begun : model.Begun
-  pub pieces : List model.Piece
+  pub items : List Item
 
 -- how many nodes and comparisons a parser has begun
 abbrev pub begun_by : Parser → model.Begun
@@ -107,18 +96,18 @@ begun_by p = record { nodes = p.nodes; tests = p.tests }
 
 -- what a parser has begun, and what is left for it to read
 abbrev pub seen : Parser → ParserView
-seen p = record { begun = begun_by p; pieces = map model.piece_of p.lexer }
+seen p = record { begun = begun_by p; items = p.lexer }
 
--- the tokens that are left, without their places
+-- the tokens that are left
 abbrev pub left : ParserView → List model.Word
-left r = bare_words r.pieces
+left r = words_of r.items
 
 -- the first token that breaks a rule, where all this is wanted
-abbrev pub breach : List model.Wanted → ParserView → Option model.Breach
-breach wanted r = model.breach_of wanted r.begun r.pieces
+abbrev pub breach : List model.Wanted → ParserView → Option (Breach QueryKind)
+breach wanted r = model.breach_of wanted r.begun r.items
 
 -- a fault that is told is the one that was found; want of memory may come of any text
-abbrev pub Fails : Option model.Breach → ReadError → Type 0
+abbrev pub Fails : Option (Breach QueryKind) → ReadError → Type 0
 Fails found stop.Memory = Unit {0}
 Fails found (stop.Breach at kind) = found ≡ Some (record { at = at; kind = kind })
 
@@ -138,17 +127,20 @@ abbrev pub Moves : {A : Type 0} → List model.Wanted → ParserView → Result 
 Moves front old r new = MovesTo front old r (λ x. []) new
 
 -- no rule is broken, or this is the first token that breaks one
-abbrev pub Finds : {A : Type 0} → Option model.Breach → Result A ReadError → Type 0
+abbrev pub Finds : {A : Type 0} → Option (Breach QueryKind) → Result A ReadError → Type 0
 Finds found (Ok x) = found ≡ None
 Finds found (Err e) = Fails found e
 
 -- a whole text, before anything is read
 abbrev pub start_of : List ℕ → ParserView
-start_of text = record { begun = model.none_begun; pieces = model.pieces_of text }
+start_of text = record { begun = model.none_begun; items = items_of text }
 
 -- a token was taken
 pub record Took (word : model.Word) (at : ℕ) (old new : ParserView) : Type 0 where
-  pub pieces : old.pieces ≡ (at, word) ∷ new.pieces
+  pub token : Lexeme
+  pub items : old.items ≡ Whole token ∷ new.items
+  pub is : word ≡ model.queries.seen token
+  pub place : token.start ≡ at
   pub begun : new.begun ≡ old.begun
 
 -- One token was taken, or it is at fault whatever is wanted later.

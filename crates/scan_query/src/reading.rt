@@ -223,7 +223,7 @@ fn begin(parser: &mut Parser<'_>, lead: Lead) -> bool
     ensures fits { result ≡ model.fits (model.with_lead (begun_by parser.old) (lead_of lead)) }
     ensures begun { result ≡ true
         → begun_by parser.new ≡ model.with_lead (begun_by parser.old) (lead_of lead) }
-    ensures pieces { (seen parser.new).pieces ≡ (seen parser.old).pieces }
+    ensures items { (seen parser.new).items ≡ (seen parser.old).items }
     ensures limit { result ≡ true → parser.new.nodes ≤ 64 }
 {
     let tests = tests_in(lead);

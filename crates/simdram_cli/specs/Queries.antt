@@ -1,13 +1,14 @@
 -- Which query texts are accepted, as what, and why others are refused; and why a scan is.
 use Rattle.std.specs.Prelude.{ℕ, List, ◌++◌, Option, Some, None, Result, Ok, Err, codes, decimal}
+use Rattle.text_lex.specs.Lexical.{items_of}
 use Rattle.scan_model.specs.declared.QueryFault.{QueryFault}
 use Rattle.scan_model.specs.declared.QueryKind.{QueryKind}
 use Rattle.scan_model.specs.declared.QueryKind.TheVariants as kinds
 use Rattle.scan_model.specs.declared.ScanWhy.{ScanWhy}
 use Rattle.scan_model.specs.declared.ScanWhy.TheVariants as reasons
 use Rattle.scan_model.specs.Queries.{Query}
-use Rattle.scan_model.specs.Texts.{fault_in, pieces_of}
-use Rattle.scan_model.specs.TextLaws.{Says, bare_words}
+use Rattle.scan_model.specs.Texts.{fault_in}
+use Rattle.scan_model.specs.TextLaws.{Says, words_of}
 use Rattle.cli_model.specs.Steps.{Refusal}
 
 -- the word for a rule of queries
@@ -37,7 +38,7 @@ query_in text = unless_broken (fault_in text)
 
 -- the tokens of the text spell this query
 abbrev pub Asks : List ℕ → Query → Type 0
-Asks text q = Says (bare_words (pieces_of text)) q
+Asks text q = Says (words_of (items_of text)) q
 
 -- the file is there, and its text asks this query
 abbrev pub AsksIn : Option (List ℕ) → Query → Type 0

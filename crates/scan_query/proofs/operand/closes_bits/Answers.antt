@@ -17,4 +17,4 @@ returns-in-Ok-clause-moves c low = token_goes (word_view c.in_ok-token.token.wor
 pub returns-in-Err-clause-moves : goal.returns-in-Err-clause-moves
 returns-in-Err-clause-moves c low = breaks (seen c.args.parser.now) (seen c.next.new.parser)
     (word_view c.in_ok-token.token.word) c.in_ok-token.token.at (model.AtLow low)
-    c.in-Err.kind c.in_ok-token.ensures.takes.pieces (c.in-Err.ensures.breaks low _)
+    c.in-Err.kind c.in_ok-token.ensures.takes (c.in-Err.ensures.breaks low _)

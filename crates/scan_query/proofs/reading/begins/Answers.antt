@@ -20,7 +20,7 @@ returns-then-begin-clause-moves c = start_goes c.in_ok-token.token.word
     c.in_ok-token.token.at (lead_of c.in-Some.lead)
     c.in_ok-token.ensures.takes (sym c.lead_at.ensures ∙ ap (option_map lead_of) c.in-Some.is)
     (sym c.begin.ensures.fits ∙ c.if-begin.true) (c.begin.ensures.begun c.if-begin.true)
-    c.begin.ensures.pieces
+    c.begin.ensures.items
 
 pub returns-else-begin-clause-moves : goal.returns-else-begin-clause-moves
 returns-else-begin-clause-moves c = start_full c.in_ok-token.token.word

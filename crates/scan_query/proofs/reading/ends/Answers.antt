@@ -1,6 +1,5 @@
-use Rattle.std.proofs.Common.{Ok, ap, map, subst}
-use Rattle.text_lex.specs.Lexical.{Takes}
-use Rattle.scan_model.specs.Texts as model
+use Rattle.std.proofs.Common.{Ok, subst}
+use Rattle.text_lex.specs.Lexical.{Takes, lexeme_of}
 use Rattle.scan_query.specs.Reading.{seen}
 use Rattle.scan_query.proofs.Ending.{at_end, spare_stranger, spare_token}
 use Rattle.scan_query.proofs.reading.ends.Goals as goal
@@ -9,15 +8,14 @@ pub returns-in-Some-clause-finds : goal.returns-in-Some-clause-finds
 returns-in-Some-clause-finds c =
     let some = subst (λ r. Takes c.args.parser.now.lexer (Ok r) c.next.new.self) c.in-Some.is
     c.in-Ok.ensures in
-    spare_token (seen c.args.parser.now) c.in-Some.token.start c.in-Some.token.kind
-    c.in-Some.token.text.now (map model.piece_of c.next.new.self) (ap (map model.piece_of) some)
+    spare_token (seen c.args.parser.now) (lexeme_of c.in-Some.token) c.next.new.self some
 
 pub returns-in-None-clause-finds : goal.returns-in-None-clause-finds
 returns-in-None-clause-finds c =
     let nothing = subst (λ r. Takes c.args.parser.now.lexer (Ok r) c.next.new.self) c.in-None.is
     c.in-Ok.ensures in
-    at_end (seen c.args.parser.now) (ap (map model.piece_of) nothing.0)
+    at_end (seen c.args.parser.now) nothing.0
 
 pub returns-in-Err-clause-finds : goal.returns-in-Err-clause-finds
-returns-in-Err-clause-finds c = spare_stranger (seen c.args.parser.now) c.in-Err.fault.at
-    (ap (map model.piece_of) c.in-Err.ensures.0)
+returns-in-Err-clause-finds c = spare_stranger (seen c.args.parser.now) c.in-Err.fault
+    c.in-Err.ensures.0

@@ -18,5 +18,5 @@ returns-then-is_it-clause-moves c = token_goes (word_view c.in_ok-token.token.wo
 pub returns-else-is_it-clause-moves : goal.returns-else-is_it-clause-moves
 returns-else-is_it-clause-moves c = breaks (seen c.args.parser.now) (seen c.next.new.parser)
     (word_view c.in_ok-token.token.word) c.in_ok-token.token.at (wanted_by c.args.mark)
-    kind.Syntax c.in_ok-token.ensures.takes.pieces
+    kind.Syntax c.in_ok-token.ensures.takes
     (mark_wrong c.args.mark c.in_ok-token.token.word _ (sym c.if-is_it.ensures))
