@@ -12,14 +12,14 @@ use Rattle.cli_model.specs.Steps.{CannotRead, TooLong, Refused, NoMemory, Cannot
 use Rattle.cli_model.specs.Steps.{ChipFailed}
 use Rattle.cli_model.specs.Steps.{End, Done, Stopped, Goes, Fails, Unopened}
 use Rattle.dram_model.specs.View.{ChipView, NotBegun}
-use Rattle.cli_model.specs.Stands.{files_after, sent_by, CountsOn, Stands}
+use Rattle.cli_model.specs.Stands.{files_after, sent_by, CountsOn}
 use Rattle.cli_model.specs.Status.{reason_status, reason_line, Says, Tells, end_status}
 use Rattle.cli_model.specs.Ends.{Stop, All, At, Causes, LastOfPrint, IsLast, AppendsAfter}
 use Rattle.cli_model.specs.Ends.{Sends, IsStoreOf, LeavesFiles, IsFault, IsForetold, Ends}
 use Rattle.cli_model.specs.Laws.{FirstDecides}
 use Rattle.cli_model.proofs.Causing.{Decided, files_decide}
 use Rattle.cli_model.proofs.Going.{within, more_counts, known_sent, all_stand}
-use Rattle.cli_model.proofs.Going.{all_faults, all_off, stopped_at}
+use Rattle.cli_model.proofs.Going.{Stands, all_faults, all_off, stopped_at}
 
 -- why a step fails
 

@@ -12,8 +12,15 @@ use Rattle.cli_model.specs.Steps.{ChipFailed}
 use Rattle.cli_model.specs.Steps.{End, Done, Stopped, Goes, StepDone, Fails, ReadsOnly, Stored}
 use Rattle.cli_model.specs.Steps.{Used, UseFailed, PrintFailed}
 use Rattle.cli_model.specs.Steps.{Sent, Printed, Unstored}
-use Rattle.cli_model.specs.Stands.{files_after, sent_by, CountsOn, Stands}
+use Rattle.cli_model.specs.Stands.{files_after, sent_by, CountsOn}
 use Rattle.cli_model.specs.Ends.{is_on_chip, may_fault}
+
+-- all of these steps were done
+pub record Stands (steps : List Step) (old new : World) : Type 0 where
+  pub files : Known (λ before after. after ≡ files_after steps before) old.files.holds
+      new.files.holds
+  pub sent : Known (λ before after. after ≡ before ++ sent_by steps) old.sink.sent new.sink.sent
+  pub counts : CountsOn old new
 
 -- steps, and then others
 pub goes_on : (xs ys : List Step) (end : End) (a b c : World) → Goes xs Done a b → Goes ys end b c

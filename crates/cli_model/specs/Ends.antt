@@ -93,11 +93,6 @@ IsStoreOf name (UseFor wave) = ⊥
 IsStoreOf name (Put bytes) = ⊥
 IsStoreOf name (Print on bytes) = ⊥
 
--- some step stores the file of this name
-abbrev pub Stores : List ℕ → List Step → Type 0
-Stores name [] = ⊥
-Stores name (step ∷ steps) = IsStoreOf name step ⊎ Stores name steps
-
 -- The files are as the stores before it left them, but for one that could not be stored
 abbrev pub LeavesFiles : Stop → Files → Files → Type 0
 LeavesFiles stop old new = (name : List ℕ) → (IsStoreOf name stop.failed → ⊥)

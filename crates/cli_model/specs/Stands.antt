@@ -1,6 +1,6 @@
 -- What stands after steps: the files, what was sent, and which counts of faults rose.
-use Rattle.std.specs.Prelude.{◌≡◌, ℕ, ◌≤◌, List, [], ◌∷◌, ◌++◌}
-use Rattle.host_edge.specs.Views.{Files, NoCountFalls, Known}
+use Rattle.std.specs.Prelude.{ℕ, ◌≤◌, List, [], ◌∷◌, ◌++◌}
+use Rattle.host_edge.specs.Views.{Files, NoCountFalls}
 use Rattle.cli_model.specs.World.{World, with_file}
 use Rattle.cli_model.specs.Steps.{Step, Load, Take, Store, Open, Use, UseFor, Put, Print}
 
@@ -33,10 +33,3 @@ pub record CountsOn (old new : World) : Type 0 where
   pub files : NoCountFalls old.files new.files
   pub sink : old.sink.faults ≤ new.sink.faults
   pub chip : old.chip.faults ≤ new.chip.faults
-
--- all of these steps were done
-pub record Stands (steps : List Step) (old new : World) : Type 0 where
-  pub files : Known (λ before after. after ≡ files_after steps before) old.files.holds
-      new.files.holds
-  pub sent : Known (λ before after. after ≡ before ++ sent_by steps) old.sink.sent new.sink.sent
-  pub counts : CountsOn old new
