@@ -50,7 +50,7 @@ const WHOLE: Reach = Reach {
         breadth: LAST,
     },
     in_cells: Course {
-        pilots: 20,
+        pilots: 60,
         margin: 0,
         first: 80,
         last: 4,
@@ -58,8 +58,8 @@ const WHOLE: Reach = Reach {
         least_width: 2,
         most_width: 40,
         share: 80,
-        finals: 3,
-        idle: 3,
+        finals: 12,
+        idle: 12,
         breadth: BROAD,
     },
 };

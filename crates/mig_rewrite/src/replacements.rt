@@ -5,7 +5,7 @@
 
 use crate::draws::Draws;
 use crate::forms::{Carries, Carry, Form, MOST_LEAST, carries, least_graph};
-use crate::sketch::{Sketch, has, with, with_operands};
+use crate::sketch::{Sketch, below, has, with, with_operands};
 use crate::tables::{NONE, Table, Tables, Turned, function_of, table_of};
 
 /// Of 100 replacements so many are least graphs of the node's function of a few leaves.
@@ -107,6 +107,7 @@ impl Divisors {
     }
 
     /// The first from a place on that joins both, or else the first before it.
+    #[inline(always)]
     fn third_of(&self, start: usize, a: &Divisor, b: &Divisor) -> Option<Divisor> {
         let all = self.list.get(..self.count)?;
         if let Some(later) = all.get(start..)
@@ -275,14 +276,17 @@ impl Replacer {
         self.list.clear();
         let care = self.turned.care_of(sketch, tables, node, above);
         let own = table_of(tables, node.saturating_mul(2));
-        for other in 0..sketch.size() {
-            if !has(above, other) {
-                let literal = other.saturating_mul(2);
-                let errors = table_of(tables, literal).xor(&own).and(&care);
-                let right = self.add_both(literal, errors, &care);
-                if right.is_some() {
-                    return right;
-                }
+        let mut others = !above & below(sketch.size());
+        for _ in 0..64u8 {
+            if others == 0 {
+                break;
+            }
+            let literal = others.trailing_zeros() as u8 * 2;
+            others &= others.wrapping_sub(1);
+            let errors = table_of(tables, literal).xor(&own).and(&care);
+            let right = self.add_both(literal, errors, &care);
+            if right.is_some() {
+                return right;
             }
         }
         None
@@ -296,6 +300,7 @@ impl Replacer {
     }
 
     /// Two drawn literals, where they are of two nodes and not wrong together.
+    #[inline(always)]
     fn pair(&mut self) -> Option<(Divisor, Divisor)> {
         let a = self.operand()?;
         let b = self.operand()?;
@@ -402,6 +407,7 @@ impl Replacer {
 }
 
 /// The first of these that joins both.
+#[inline(always)]
 fn first_of(list: &[Divisor], a: &Divisor, b: &Divisor) -> Option<Divisor> {
     let errors = a.or(b);
     for c in list {

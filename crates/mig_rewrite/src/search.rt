@@ -21,7 +21,7 @@ pub struct Walks {
 }
 
 /// After how many steps in a row that have met no graph to keep a walk ends.
-const IDLE_STEPS: u16 = 1_100;
+const IDLE_STEPS: u16 = 1_200;
 
 /// After how many short walks in a row that have met no graph to keep there are no more.
 const IDLE_WALKS: u8 = 7;

@@ -93,10 +93,11 @@ impl Table {
 /// The table of a literal.
 #[inline(always)]
 pub fn table_of(tables: &Tables, literal: u8) -> Table {
-    match tables.get(literal as usize / 2) {
-        Some(table) if literal & 1 == 1 => table.complement(),
-        Some(table) => *table,
-        None => NONE,
+    let table = tables[literal as usize / 2 % 64];
+    if literal & 1 == 1 {
+        table.complement()
+    } else {
+        table
     }
 }
 
@@ -217,6 +218,7 @@ impl Turned {
     }
 
     /// The table of a literal.
+    #[inline(always)]
     fn of(&self, tables: &Tables, literal: u8) -> Table {
         if has(self.above, literal / 2) {
             table_of(&self.tables, literal)
@@ -231,13 +233,16 @@ impl Turned {
         if (node as usize) < 64 {
             self.tables[node as usize] = tables[node as usize].complement();
         }
-        let others = above & !with(0, node);
-        for k in sketch.first()..sketch.size() {
-            if has(others, k) && (k as usize) < 64 {
-                let [a, b, c] = sketch.operands(k);
-                let (a, b, c) = (self.of(tables, a), self.of(tables, b), self.of(tables, c));
-                self.tables[k as usize] = Table::majority(&a, &b, &c);
+        let mut others = above & !with(0, node);
+        for _ in 0..64u8 {
+            if others == 0 {
+                break;
             }
+            let k = others.trailing_zeros() as u8;
+            others &= others.wrapping_sub(1);
+            let [a, b, c] = sketch.operands(k);
+            let (a, b, c) = (self.of(tables, a), self.of(tables, b), self.of(tables, c));
+            self.tables[k as usize % 64] = Table::majority(&a, &b, &c);
         }
     }
 

@@ -50,6 +50,11 @@ const BOTH_WAYS: i32 = 8;
 
 const INVERTED_ALONE: i32 = 12;
 
+/// An output whose node must still be made: its complement, or the node itself.
+const OUTPUT_UNMADE_INVERTED: i32 = 18;
+
+const OUTPUT_UNMADE: i32 = 10;
+
 /// What is ahead of the states of a body with the same nodes to be made.
 #[derive(Clone, Copy)]
 pub struct Ahead {
@@ -65,8 +70,11 @@ pub struct Ahead {
     pub read: Nodes,
     /// The inputs and constants that they read from their rows.
     pub loads: Nodes,
+    /// How many nodes and loads these are.
+    pub steps: u32,
+    pub load_count: u32,
     /// The outputs of the other nodes.
-    given: Set,
+    pub given: Set,
 }
 
 /// The inputs that are read straight, and those that are read inverted.
@@ -110,7 +118,8 @@ fn of_input(readers: u32, is_inverted: bool) -> i32 {
 
 /// The weight of an operand, where these nodes must still be made.
 fn of_operand(task: &Task, unmade: Set, l: Short) -> i32 {
-    let readers = task.readers(l.node()).and(unmade).len();
+    let readers = task.readers(l).or(task.readers(l.complement()));
+    let readers = readers.and(unmade).len();
     if task.nodes_of(unmade).has(l.node()) {
         if readers > 1 {
             UNMADE_SHARED
@@ -128,16 +137,13 @@ fn of_operand(task: &Task, unmade: Set, l: Short) -> i32 {
     }
 }
 
-/// The outputs of nodes that are made.
-fn given_outs(task: &Task, unmade: Set) -> Set {
-    let mut given = Set(0);
-    for j in 0..8u8 {
-        let l = task.output(j);
-        if l.is_some() && !task.nodes_of(unmade).has(l.node()) {
-            given = given.with(j);
-        }
+/// The weight of an output whose node must still be made.
+fn of_unmade_output(l: Short) -> i32 {
+    if l.is_inverted() {
+        OUTPUT_UNMADE_INVERTED
+    } else {
+        OUTPUT_UNMADE
     }
-    given
 }
 
 impl Ahead {
@@ -150,6 +156,8 @@ impl Ahead {
             points: Points(0),
             read: Nodes(0),
             loads: Nodes(0),
+            steps: 0,
+            load_count: 0,
             given: Set(0),
         }
     }
@@ -172,36 +180,51 @@ impl Ahead {
         }
     }
 
+    /// With the outputs.
+    fn add_outs(&mut self, task: &Task) {
+        for j in 0..8u8 {
+            let l = task.output(j);
+            if task.nodes_of(self.unmade).has(l.node()) {
+                self.points = self.points.plus(of_unmade_output(l));
+            } else if l.is_some() {
+                self.given = self.given.with(j);
+            }
+        }
+    }
+
     /// Of a body, where these nodes must still be made.
     pub fn from(task: &Task, body: u32, unmade: Set) -> Ahead {
         let mut ahead = Ahead {
             body,
             unmade,
             read: task.read_by(unmade),
-            given: given_outs(task, unmade),
             ..Ahead::none()
         };
+        ahead.add_outs(task);
         let mut polarities = Polarities {
             straight: Nodes(0),
             inverted: Nodes(0),
         };
         let mut left = unmade;
-        for _ in 0..unmade.len() {
-            if let Some(k) = left.first() {
-                left = left.without(k);
-                ahead.add(task, k);
-                let [a, b, c] = task.operands(k);
-                polarities = polarities.with(task, a).with(task, b).with(task, c);
-            }
+        for _ in 0..32u8 {
+            let Some(k) = left.first() else {
+                break;
+            };
+            left = left.rest();
+            ahead.add(task, k);
+            let [a, b, c] = task.operands(k);
+            polarities = polarities.with(task, a).with(task, b).with(task, c);
         }
         let count = unmade.len();
+        ahead.steps = count;
+        ahead.load_count = ahead.loads.len();
         let squared = NODES_SQUARED.wrapping_mul((count.wrapping_mul(count) & 0x7FF) as i32) / 10;
         ahead.points = ahead
             .points
             .plus(NOTHING)
             .with(NODE, count)
             .plus(squared)
-            .with(LOAD, ahead.loads.len())
+            .with(LOAD, ahead.load_count)
             .with(READY, ahead.ready.len())
             .plus(polarities.points().0);
         ahead
@@ -210,16 +233,13 @@ impl Ahead {
     /// A number of commands that the steps from a state take at least, apart from loads: one for
     /// each node, and one for each output of a node that is made.
     #[inline(always)]
-    fn least(&self, unwritten: Set) -> u32 {
-        let writes = self.given.and(unwritten).len();
-        self.unmade.len().saturating_add(writes)
+    pub fn least(&self, unwritten: Set) -> u32 {
+        self.steps.saturating_add(self.given.and(unwritten).len())
     }
 
-    /// Whether these take more than so many commands with the first loads of each input or constant
-    /// that stands in no cell, where the cells hold these nodes.
+    /// How many inputs and constants must be loaded first, where the cells hold these nodes.
     #[inline(always)]
-    pub fn is_above(&self, unwritten: Set, held: Nodes, most: u32) -> bool {
-        let loads = self.loads.minus(held).len();
-        self.least(unwritten).saturating_add(loads) > most
+    pub fn loads_left(&self, held: Nodes) -> u32 {
+        self.loads.minus(held).len()
     }
 }

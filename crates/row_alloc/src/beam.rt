@@ -10,10 +10,11 @@ use crate::body::BodyRef::{B, Out, Spill};
 use crate::body::{Held, OutRow};
 use crate::bucket::{Bucket, Entry};
 use crate::cells::{Cells, Short, driven, holders};
+use crate::commands::Commands;
 use crate::estimate::{estimate, rank_of};
 use crate::idle::without_copies;
 use crate::memory::Memory;
-use crate::moves::{Commands, Job, LineUp, Way, complemented, fill_left, missing_in};
+use crate::moves::{ARRANGEMENTS, Job, LineUp, Way, complemented, fill_left, missing_in};
 use crate::outlook::{Rows, State, Task, in_place};
 use crate::set::{Nodes, Set};
 use faults::keep;
@@ -79,6 +80,9 @@ struct Origin {
     /// Its place among the entries that have gone on.
     at: usize,
     rows: Rows,
+    /// How many outputs must still be written, and how many steps are left.
+    unwritten: u32,
+    left: u32,
     width: usize,
 }
 
@@ -93,6 +97,9 @@ struct Trial {
     wanted: Nodes,
     endangered: Nodes,
     spent: u32,
+    /// How many steps are left, and how many commands these take at least.
+    left: u32,
+    least: u32,
 }
 
 impl Trial {
@@ -108,7 +115,45 @@ impl Trial {
             wanted,
             endangered: wanted.minus(rows.any).minus(unmade),
             spent,
+            left: ahead.steps.saturating_add(unwritten.len()),
+            least: ahead.least(unwritten),
         }
+    }
+
+    /// After a node is made, where these are spilled then and no output more is written.
+    #[inline(always)]
+    fn made(
+        task: &Task,
+        from: &Origin,
+        ahead: &Ahead,
+        job: &Job,
+        spilled: Set,
+        spent: u32,
+    ) -> Trial {
+        if spilled != from.state.spilled {
+            return Trial::new(task, ahead, spilled, from.state.unwritten, spent);
+        }
+        Trial {
+            spilled,
+            unwritten: from.state.unwritten,
+            rows: from.rows,
+            wanted: job.wanted_after,
+            endangered: job.endangered,
+            spent,
+            left: ahead.steps.saturating_add(from.unwritten),
+            least: job.least,
+        }
+    }
+
+    /// The same, where the node goes to its spill row.
+    #[inline(always)]
+    fn with_spilled(&self, task: &Task, spill: u8) -> Trial {
+        let node = task.nodes_of(Set(0).with(spill));
+        let mut trial = *self;
+        trial.spilled = self.spilled.with(spill);
+        trial.rows = self.rows.with_own(node);
+        trial.endangered = self.endangered.minus(node);
+        trial
     }
 }
 
@@ -181,12 +226,13 @@ impl Candidates {
         };
         let unmade = task.nodes_of(s.unmade);
         let mut left = s.unmade;
-        for _ in 0..s.unmade.len() {
-            if let Some(node) = left.first() {
-                left = left.without(node);
-                if !task.reads(node).meets(unmade) {
-                    all.add_both(task, s, node);
-                }
+        for _ in 0..32u8 {
+            let Some(node) = left.first() else {
+                break;
+            };
+            left = left.rest();
+            if !task.reads(node).meets(unmade) {
+                all.add_both(task, s, node);
             }
         }
         all
@@ -244,6 +290,7 @@ impl Beam {
             state,
             spent: 0,
             rank: 0,
+            is_safe: task.is_safe(&state),
             from: None,
             cmds: Commands::new(),
         };
@@ -264,10 +311,13 @@ impl Beam {
         }
     }
 
-    /// Whether more commands than are looked for come to the end from a state with these cells.
+    /// Whether more commands than are looked for come to the end from a state with these cells,
+    /// where its steps take at least so many apart from loads.
     #[inline(always)]
-    fn is_too_far(&self, ahead: &Ahead, unwritten: Set, held: Nodes, spent: u32) -> bool {
-        spent > self.most || ahead.is_above(unwritten, held, self.most.saturating_sub(spent))
+    fn is_too_far(&self, ahead: &Ahead, least: u32, held: Nodes, spent: u32) -> bool {
+        let sure = spent.saturating_add(least);
+        let most = self.most.saturating_sub(sure);
+        sure > self.most || ahead.load_count > most && ahead.loads_left(held) > most
     }
 
     /// Keeps a state that a step has led to, where it is among the best and loses no value.
@@ -285,7 +335,7 @@ impl Beam {
         memory.count(1);
         let (cells, held) = cells.cleared(trial.wanted);
         if !trial.endangered.minus(held).is_empty()
-            || self.is_too_far(ahead, trial.unwritten, held, trial.spent)
+            || self.is_too_far(ahead, trial.least, held, trial.spent)
         {
             return Ok(());
         }
@@ -303,7 +353,7 @@ impl Beam {
             estimate(task, ahead, &state, &trial.rows, held),
         );
         let is_safe = trial.endangered.is_empty();
-        let is_next = state.left().saturating_add(1) == from.state.left();
+        let is_next = trial.left.saturating_add(1) == from.left;
         let bucket = if is_next {
             &mut self.next
         } else {
@@ -316,10 +366,11 @@ impl Beam {
             state,
             spent: trial.spent,
             rank,
+            is_safe,
             from: Some(from.at),
             cmds: cmds.then(last),
         };
-        bucket.offer(task, entry, is_safe, from.width)
+        bucket.offer(&entry, from.width)
     }
 
     /// Considers the states after a node is made, where the activation goes to cells alone.
@@ -337,15 +388,15 @@ impl Beam {
         let cmd = Ap(B(end.triple));
         self.consider(task, memory, from, ahead, trial, cells, (cmds, cmd))?;
         let free = cells.free(job.wanted_after);
-        let fills = memory.lines.fills.worth(&cells, job.sensed, free);
-        let mut left = fills;
-        for _ in 0..fills.len() {
-            if let Some(y) = left.first() {
-                left = left.without(y);
-                let cells = driven(&cells, y, job.sensed);
-                let cmd = Aap(B(end.triple), B(y));
-                self.consider(task, memory, from, ahead, trial, cells, (cmds, cmd))?;
-            }
+        let mut left = memory.lines.fills.worth(&cells, job.sensed, free);
+        for _ in 0..32u8 {
+            let Some(y) = left.first() else {
+                break;
+            };
+            left = left.rest();
+            let cells = driven(&cells, y, job.sensed);
+            let cmd = Aap(B(end.triple), B(y));
+            self.consider(task, memory, from, ahead, trial, cells, (cmds, cmd))?;
         }
         Ok(())
     }
@@ -364,18 +415,19 @@ impl Beam {
         let (cmds, cells, spent) = (&end.cmds, end.cells, end.trial.spent);
         let (spilled, unwritten) = (end.trial.spilled, end.trial.unwritten);
         if let Some(spill) = task.spill_of(job.sensed) {
-            let trial = Trial::new(task, ahead, spilled.with(spill), unwritten, spent);
+            let trial = end.trial.with_spilled(task, spill);
             let cmd = Aap(B(end.triple), Spill(spill));
             self.consider(task, memory, from, ahead, &trial, cells, (cmds, cmd))?;
         }
         let mut left = job.outs;
-        for _ in 0..job.outs.len() {
-            if let Some(j) = left.first() {
-                left = left.without(j);
-                let trial = Trial::new(task, ahead, spilled, unwritten.without(j), spent);
-                let cmd = Aap(B(end.triple), Out(j));
-                self.consider(task, memory, from, ahead, &trial, cells, (cmds, cmd))?;
-            }
+        for _ in 0..32u8 {
+            let Some(j) = left.first() else {
+                break;
+            };
+            left = left.rest();
+            let trial = Trial::new(task, ahead, spilled, unwritten.without(j), spent);
+            let cmd = Aap(B(end.triple), Out(j));
+            self.consider(task, memory, from, ahead, &trial, cells, (cmds, cmd))?;
         }
         Ok(())
     }
@@ -394,7 +446,6 @@ impl Beam {
     ) -> Result<(), NoMemory> {
         let activated = line_up.activated(&way.cells, job);
         let (cells, held) = activated.cleared(job.wanted_after);
-        let unwritten = from.state.unwritten;
         let spilled = task.nodes_of(way.spilled.minus(from.state.spilled));
         let lost = job.endangered.minus(spilled).minus(held);
         let loaded = from.spent.saturating_add(way.cmds.len());
@@ -406,7 +457,7 @@ impl Beam {
         }
         // The activation is a command more, and may write an output.
         let spent = loaded.saturating_add(job.outs.is_empty() as u32);
-        if self.is_too_far(ahead, unwritten, held, spent) {
+        if self.is_too_far(ahead, job.least, held, spent) {
             let free = cells.free(job.wanted_after);
             let fills = memory.lines.fills.worth(&cells, job.sensed, free);
             memory.count(job.end_count(task, fills));
@@ -415,7 +466,7 @@ impl Beam {
         let made = loaded.saturating_add(1);
         let end = End {
             triple: line_up.triple,
-            trial: Trial::new(task, ahead, way.spilled, unwritten, made),
+            trial: Trial::made(task, from, ahead, job, way.spilled, made),
             cells,
             cmds: way.cmds,
         };
@@ -447,13 +498,19 @@ impl Beam {
     /// Whether the node is made by more commands than are looked for, or the end is too far then:
     /// each operand that is not in place takes a command, and so does the activation, which may
     /// write an output.
-    fn is_far_off(&self, from: &Origin, ahead: &Ahead, candidate: &Candidate, outs: Set) -> bool {
+    fn is_far_off(
+        &self,
+        from: &Origin,
+        ahead: &Ahead,
+        candidate: &Candidate,
+        (outs, least): (Set, u32),
+    ) -> bool {
         let loaded = from.spent.saturating_add(candidate.missing);
         let spent = loaded.saturating_add(outs.is_empty() as u32);
         let [a, b, c] = candidate.operands;
         let operands = a.nodes().or(b.nodes()).or(c.nodes());
         let held = from.state.cells.nodes().or(operands);
-        self.is_too_far(ahead, from.state.unwritten, held, spent)
+        self.is_too_far(ahead, least, held, spent)
     }
 
     /// Tries the line-ups of a node that lack least, until so many states have been tried.
@@ -469,7 +526,8 @@ impl Beam {
         let unmade = s.unmade.without(candidate.node);
         let ahead = memory.ahead_of(task, self.body, unmade);
         let outs = task.outs_of(candidate.sensed).and(s.unwritten);
-        if self.is_far_off(from, &ahead, candidate, outs) {
+        let least = ahead.least(s.unwritten);
+        if self.is_far_off(from, &ahead, candidate, (outs, least)) {
             return Ok(());
         }
         let named = task.named_by(s.unwritten);
@@ -478,6 +536,7 @@ impl Beam {
             sensed: candidate.sensed,
             outs,
             rows: from.rows,
+            least,
             wanted: task.read_by(s.unmade).or(named),
             wanted_after,
             endangered: wanted_after
@@ -491,9 +550,9 @@ impl Beam {
             holders(&s.cells, b).straight(),
             holders(&s.cells, c).straight(),
         ];
-        for number in 0..24u8 {
-            if missing_in(number, cells) == candidate.missing && memory.tried < most {
-                let line_up = LineUp::new(number, candidate.operands);
+        for (number, places) in ARRANGEMENTS.iter().enumerate() {
+            if missing_in(*places, cells) == candidate.missing && memory.tried < most {
+                let line_up = LineUp::new(number, *places, candidate.operands);
                 self.try_line_up(task, memory, from, &ahead, &job, &line_up)?;
             }
         }
@@ -511,7 +570,10 @@ impl Beam {
         most: usize,
     ) -> Result<(), NoMemory> {
         for (k, candidate) in candidates.list.iter().enumerate() {
-            if k < candidates.count && candidate.missing == missing && memory.tried < most {
+            if k >= candidates.count {
+                break;
+            }
+            if candidate.missing == missing && memory.tried < most {
                 self.try_job(task, memory, from, candidate, most)?;
             }
         }
@@ -597,6 +659,8 @@ impl Beam {
             spent: entry.spent,
             at: self.done.len(),
             rows: task.rows(s.spilled, s.unwritten),
+            unwritten: s.unwritten.len(),
+            left: s.left(),
             width: scope.width,
         };
         keep(&mut self.done, *entry)?;
@@ -622,7 +686,7 @@ impl Beam {
         for entry in &now.kept {
             self.go_on(task, memory, entry, scope)?;
         }
-        if let Some(entry) = now.only_safe(task) {
+        if let Some(entry) = now.only_safe() {
             self.go_on(task, memory, &entry, scope)?;
         }
         // Its memory serves again.

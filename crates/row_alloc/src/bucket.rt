@@ -1,7 +1,7 @@
 //! The best states of a beam after as many steps.
 
-use crate::moves::Commands;
-use crate::outlook::{State, Task};
+use crate::commands::Commands;
+use crate::outlook::State;
 use faults::keep;
 use mig_graph::NoMemory;
 use std::alloc::Global;
@@ -15,17 +15,21 @@ pub struct Entry {
     pub state: State,
     pub spent: u32,
     pub rank: u32,
+    /// Whether each wanted value that is made stands in a row.
+    pub is_safe: bool,
     pub from: Option<usize>,
     pub cmds: Commands,
 }
 
 impl Entry {
     /// Whether both have the same nodes to make and the same outputs to write.
+    #[inline(always)]
     fn is_akin(&self, other: &Entry) -> bool {
         self.state.unmade == other.state.unmade && self.state.unwritten == other.state.unwritten
     }
 
     /// Whether it can go on as the other can, after no more commands.
+    #[inline(always)]
     fn covers(&self, other: &Entry) -> bool {
         self.is_akin(other) && self.spent <= other.spent && self.state.covers(&other.state)
     }
@@ -54,14 +58,13 @@ impl Worst {
 }
 
 /// What stands beside a new entry: whether one covers it, and whether it covers one; how many have
-/// the same nodes to make and the same outputs to write, and the worst of these and of all.
+/// the same nodes to make and the same outputs to write, and the worst of these.
 #[derive(Clone, Copy)]
 struct View {
     is_covered: bool,
     covers: bool,
     akin: usize,
     worst_akin: Worst,
-    worst: Worst,
 }
 
 /// The best states after as many steps, and the best of those whose values all stand in rows, from
@@ -69,8 +72,10 @@ struct View {
 pub struct Bucket {
     pub kept: Vec<Entry>,
     pub safe: Option<Entry>,
-    /// The greatest estimate of the best ones where there are enough, and else no limit.
-    worst: u32,
+    /// The first of the greatest estimate.
+    worst: Worst,
+    /// That estimate where there are enough, and else no limit.
+    limit: u32,
 }
 
 impl Drop for Bucket {
@@ -79,6 +84,7 @@ impl Drop for Bucket {
             kept: _,
             safe: _,
             worst: _,
+            limit: _,
         } = self;
     }
 }
@@ -88,7 +94,8 @@ impl Bucket {
         Bucket {
             kept: Vec::new(alloc),
             safe: None,
-            worst: u32::MAX,
+            worst: Worst::new(),
+            limit: u32::MAX,
         }
     }
 
@@ -96,21 +103,22 @@ impl Bucket {
     pub fn clear(&mut self) {
         self.kept.clear();
         self.safe = None;
-        self.worst = u32::MAX;
+        self.worst = Worst::new();
+        self.limit = u32::MAX;
     }
 
     pub fn is_empty(&self) -> bool {
         self.kept.is_empty() && self.safe.is_none()
     }
 
-    /// Keeps an entry beside the best ones, from which every node can be made.
-    fn offer_safe(&mut self, new: Entry) {
+    /// Keeps an entry beside the best ones, where every node can be made from it.
+    fn offer_safe(&mut self, new: &Entry) {
         let is_better = match &self.safe {
             Some(old) => new.rank < old.rank,
             None => true,
         };
-        if is_better {
-            self.safe = Some(new);
+        if new.is_safe && is_better {
+            self.safe = Some(*new);
         }
     }
 
@@ -138,19 +146,27 @@ impl Bucket {
         least
     }
 
-    /// The greatest estimate of the best ones.
-    fn greatest_rank(&self) -> u32 {
-        let mut greatest = 0;
-        for entry in &self.kept {
-            greatest = u32::max(greatest, entry.rank);
+    /// Finds the first of the greatest estimate, where so many go on.
+    fn find_worst(&mut self, width: usize) {
+        let mut worst = Worst::new();
+        for (place, entry) in self.kept.iter().enumerate() {
+            let rank = entry.rank;
+            if rank > worst.rank {
+                worst = Worst { place, rank };
+            }
         }
-        greatest
+        self.worst = worst;
+        self.limit = if self.kept.len() >= width {
+            worst.rank
+        } else {
+            u32::MAX
+        };
     }
 
     /// The safe entry, where no other is safe.
-    pub fn only_safe(&self, task: &Task) -> Option<Entry> {
+    pub fn only_safe(&self) -> Option<Entry> {
         for entry in &self.kept {
-            if task.is_safe(&entry.state) {
+            if entry.is_safe {
                 return None;
             }
         }
@@ -175,12 +191,14 @@ impl Bucket {
             covers: false,
             akin: 0,
             worst_akin: Worst::new(),
-            worst: Worst::new(),
         };
         for (k, entry) in self.kept.iter().enumerate() {
             if entry.is_akin(new) {
-                view.is_covered |= entry.covers(new);
-                view.covers |= new.covers(entry);
+                if entry.spent <= new.spent && entry.state.covers(&new.state) {
+                    view.is_covered = true;
+                    return view;
+                }
+                view.covers |= new.spent <= entry.spent && new.state.covers(&entry.state);
                 view.akin = view.akin.saturating_add(1);
                 if entry.rank >= view.worst_akin.rank {
                     view.worst_akin = Worst {
@@ -188,12 +206,6 @@ impl Bucket {
                         rank: entry.rank,
                     };
                 }
-            }
-            if entry.rank > view.worst.rank {
-                view.worst = Worst {
-                    place: k,
-                    rank: entry.rank,
-                };
             }
         }
         view
@@ -208,69 +220,53 @@ impl Bucket {
         } else if self.kept.len() < usize::max(width, 1) {
             self.kept.len()
         } else {
-            view.worst.place
+            self.worst.place
         }
     }
 
-    /// Puts the entry among the best ones, unless it is worse than the one in its place. Returns
-    /// the one of both that is left over.
-    fn put(&mut self, new: Entry, place: usize) -> Result<Option<Entry>, NoMemory> {
+    /// Puts the entry among the best ones, of which so many go on, unless it is worse than the one
+    /// in its place. The one of both that is left over is offered as a safe one.
+    fn put(&mut self, new: &Entry, place: usize, width: usize) -> Result<(), NoMemory> {
         if place >= self.kept.len() {
-            keep(&mut self.kept, new)?;
-            return Ok(None);
+            keep(&mut self.kept, *new)?;
+        } else if new.rank < self.kept[place].rank {
+            let old = self.kept[place];
+            self.kept[place] = *new;
+            self.offer_safe(&old);
+        } else {
+            self.offer_safe(new);
+            return Ok(());
         }
-        let old = self.kept[place];
-        if new.rank < old.rank {
-            self.kept[place] = new;
-            return Ok(Some(old));
-        }
-        Ok(Some(new))
+        self.find_worst(width);
+        Ok(())
     }
 
     /// Keeps the entry, where it is among the best.
-    fn offer_best(&mut self, task: &Task, new: Entry, width: usize) -> Result<(), NoMemory> {
-        let mut view = self.view(&new);
+    fn offer_best(&mut self, new: &Entry, width: usize) -> Result<(), NoMemory> {
+        let mut view = self.view(new);
         if view.is_covered {
             return Ok(());
         }
         if view.covers {
-            self.drop_covered(&new);
-            view = self.view(&new);
+            self.drop_covered(new);
+            self.find_worst(width);
+            view = self.view(new);
         }
-        let left = self.put(new, self.place_of(&view, width))?;
-        if let Some(entry) = left
-            && task.is_safe(&entry.state)
-        {
-            self.offer_safe(entry);
-        }
-        self.worst = if self.kept.len() >= width {
-            self.greatest_rank()
-        } else {
-            u32::MAX
-        };
-        Ok(())
+        self.put(new, self.place_of(&view, width), width)
     }
 
     /// Whether an entry of this estimate can be kept.
     #[inline(always)]
     pub fn takes(&self, rank: u32, is_safe: bool) -> bool {
-        rank <= self.worst || is_safe
+        rank <= self.limit || is_safe
     }
 
     /// Keeps the entry, where it is among the best or a safe one.
-    pub fn offer(
-        &mut self,
-        task: &Task,
-        new: Entry,
-        is_safe: bool,
-        width: usize,
-    ) -> Result<(), NoMemory> {
-        if new.rank <= self.worst {
-            return self.offer_best(task, new, width);
+    pub fn offer(&mut self, new: &Entry, width: usize) -> Result<(), NoMemory> {
+        if new.rank <= self.limit {
+            return self.offer_best(new, width);
         }
-        if is_safe {
-            self.offer_safe(new);
-        }
+        self.offer_safe(new);
         Ok(())
     }
 }

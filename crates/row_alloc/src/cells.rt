@@ -11,13 +11,16 @@ use std::alloc::Global;
 #[derive(Clone, Copy, PartialEq, Eq)]
 pub struct Short(u8);
 
-/// No literal.
+/// No literal. Its node is none of those that a search knows.
 pub const NONE: Short = Short(255);
+
+/// The node of no literal, as sets of nodes take it.
+const NO_NODE: u8 = 63;
 
 impl Short {
     /// The literal of a node, or none where its number is above those that a search knows.
     pub fn new(node: u32, inverted: bool) -> Short {
-        if node < 64 {
+        if node < 63 {
             Short(node as u8 * 2 + inverted as u8)
         } else {
             NONE
@@ -139,19 +142,31 @@ impl Cells {
         Cells(self.0 & !mask | u64::from(l.0).wrapping_mul(LOW) & mask)
     }
 
+    /// The cells of which the others know something hold the literal.
+    #[inline(always)]
+    pub fn over(self, others: &Cells, l: Short) -> Cells {
+        let mask = ((!others.0 & HIGH) >> 7).wrapping_mul(0xFF);
+        Cells(self.0 & !mask | u64::from(l.0).wrapping_mul(LOW) & mask)
+    }
+
     /// The cells of which something is known.
     #[inline(always)]
     pub fn known(self) -> Set {
-        Set(gathered(not_zero(!self.0)) & 0x3F)
+        Set(gathered(!self.0))
+    }
+
+    /// The node that the cell of this number holds, or `NO_NODE`.
+    #[inline(always)]
+    fn node(self, k: u8) -> Nodes {
+        Nodes(0).with(self.get(k).node())
     }
 
     /// The nodes that stand in cells.
     #[inline(always)]
     pub fn nodes(self) -> Nodes {
-        let low = self.get(0).nodes().or(self.get(1).nodes());
-        let middle = self.get(2).nodes().or(self.get(3).nodes());
-        let high = self.get(4).nodes().or(self.get(5).nodes());
-        low.or(middle).or(high)
+        let low = self.node(0).or(self.node(1)).or(self.node(2));
+        let high = self.node(3).or(self.node(4)).or(self.node(5));
+        low.or(high).without(NO_NODE)
     }
 
     /// The cells that hold none of these nodes.
@@ -159,9 +174,8 @@ impl Cells {
     pub fn free(self, wanted: Nodes) -> Set {
         let mut bits = 0u32;
         for k in 0..6u8 {
-            if !wanted.meets(self.get(k).nodes()) {
-                bits |= 1 << k;
-            }
+            let is_wanted = wanted.has(self.get(k).node());
+            bits |= (!is_wanted as u32) << k;
         }
         Set(bits)
     }
@@ -169,16 +183,13 @@ impl Cells {
     /// The cells with these nodes alone, and which of them stand there: equal states are one so.
     #[inline(always)]
     pub fn cleared(self, wanted: Nodes) -> (Cells, Nodes) {
-        let mut free = 0u32;
-        let mut held = Nodes(0);
+        let mut kept = 0u64;
         for k in 0..6u8 {
-            let node = self.get(k).nodes().and(wanted);
-            held = held.or(node);
-            if node.is_empty() {
-                free |= 1 << k;
-            }
+            let is_wanted = wanted.has(self.get(k).node());
+            kept |= (is_wanted as u64) << (k * 8);
         }
-        (self.with(Set(free), NONE), held)
+        let held = self.nodes().and(wanted);
+        (Cells(self.0 | !kept.wrapping_mul(0xFF)), held)
     }
 }
 
@@ -204,6 +215,27 @@ static RAISED: [u32; 16] = [
     0b1110,
     0b1_0110,
     0b10_1001,
+];
+
+/// The cells that B0 to B15 raise, by whole bytes, and those of them that they raise by the
+/// n-wordline, by the lowest bits of the bytes.
+static TAKING: [[u64; 2]; 16] = [
+    [0x0000000000FF, 0x000000000000],
+    [0x00000000FF00, 0x000000000000],
+    [0x000000FF0000, 0x000000000000],
+    [0x0000FF000000, 0x000000000000],
+    [0x00FF00000000, 0x000000000000],
+    [0x00FF00000000, 0x000100000000],
+    [0xFF0000000000, 0x000000000000],
+    [0xFF0000000000, 0x010000000000],
+    [0x00FF000000FF, 0x000100000000],
+    [0xFF000000FF00, 0x010000000000],
+    [0x0000FFFF0000, 0x000000000000],
+    [0x0000FF0000FF, 0x000000000000],
+    [0x000000FFFFFF, 0x000000000000],
+    [0x0000FFFFFF00, 0x000000000000],
+    [0x00FF00FFFF00, 0x000000000000],
+    [0xFF00FF0000FF, 0x000000000000],
 ];
 
 #[inline(always)]
@@ -242,15 +274,21 @@ pub fn holders(cells: &Cells, l: Short) -> Lines {
 /// The cells after an address takes a literal.
 #[inline(always)]
 pub fn driven(cells: &Cells, y: u8, l: Short) -> Cells {
-    let lines = lines_of(y);
-    let straight = cells.with(lines.straight(), l);
-    straight.with(lines.complemented(), l.complement())
+    let [taking, complemented] = TAKING[y as usize % 16];
+    let taken = u64::from(l.0).wrapping_mul(LOW) ^ complemented;
+    Cells(cells.0 & !taking | taken & taking)
 }
 
 /// The cells that do not hold what is wanted of them.
 #[inline(always)]
 pub fn lacking(want: &Cells, cells: &Cells) -> Set {
-    Set(gathered(not_zero(want.0 ^ cells.0) & not_zero(!want.0)))
+    Set(gathered(not_zero(want.0 ^ cells.0) & !want.0))
+}
+
+/// Whether the cells hold all that is wanted of them.
+#[inline(always)]
+pub fn lack_none(want: &Cells, cells: &Cells) -> bool {
+    not_zero(want.0 ^ cells.0) & !want.0 == 0
 }
 
 /// The address by which a cell alone is read, straight or complemented.

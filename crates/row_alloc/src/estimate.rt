@@ -5,14 +5,9 @@
 //! docs/SEARCH.md says how. Sums stay far below 2^31.
 
 use crate::ahead::Ahead;
-use crate::cells::{Cells, Short, holders, lacking, reader};
-use crate::outlook::{Rows, State, Task, in_place};
+use crate::cells::{holders, lacking};
+use crate::outlook::{InPlace, Rows, State, Task};
 use crate::set::{Nodes, Set};
-
-/// An output whose node must still be made: its complement, or the node itself.
-const OUTPUT_UNMADE_INVERTED: i32 = 18;
-
-const OUTPUT_UNMADE: i32 = 10;
 
 /// An output that is made, where something gives it, or only its complement is given.
 const OUTPUT_GIVEN: i32 = 22;
@@ -79,42 +74,30 @@ fn nth(weights: [i32; 4], k: u32) -> i32 {
     weights[k as usize % 4]
 }
 
-/// The weight of an output.
-#[inline(always)]
-fn of_output(task: &Task, ahead: &Ahead, cells: &Cells, rows: &Rows, l: Short) -> i32 {
-    if task.nodes_of(ahead.unmade).has(l.node()) {
-        if l.is_inverted() {
-            OUTPUT_UNMADE_INVERTED
-        } else {
-            OUTPUT_UNMADE
-        }
-    } else if task.row_of(rows, l).is_some() || reader(cells, l).is_some() {
-        OUTPUT_GIVEN
-    } else {
-        OUTPUT_COMPLEMENT_GIVEN
-    }
-}
-
-/// The outputs that must still be written.
+/// The outputs of nodes that are made, where they must still be written.
 #[inline(always)]
 fn of_outputs(task: &Task, ahead: &Ahead, s: &State, rows: &Rows) -> Points {
     let mut points = Points(0);
-    let mut left = s.unwritten;
-    for _ in 0..s.unwritten.len() {
-        if let Some(j) = left.first() {
-            left = left.without(j);
-            points = points.plus(of_output(task, ahead, &s.cells, rows, task.output(j)));
-        }
+    let mut left = s.unwritten.and(ahead.given);
+    for _ in 0..8u8 {
+        let Some(j) = left.first() else {
+            break;
+        };
+        left = left.rest();
+        let is_given = task.source(rows, &s.cells, task.output(j)).is_some();
+        points = points.plus(if is_given {
+            OUTPUT_GIVEN
+        } else {
+            OUTPUT_COMPLEMENT_GIVEN
+        });
     }
     points
 }
 
-/// What stands in cells: its points, the nodes that read it, and how many values stand in cells
-/// alone.
+/// What stands in cells: its points, and how many values stand in cells alone.
 #[derive(Clone, Copy)]
 struct InCells {
     points: Points,
-    touched: Set,
     alone: u32,
 }
 
@@ -143,12 +126,45 @@ impl InCells {
     }
 }
 
+/// The nodes that must still be made and read what stands in cells, and for each node what stands
+/// in place of its operands.
+#[derive(Clone, Copy)]
+struct Touched {
+    nodes: Set,
+    in_place: [InPlace; 32],
+}
+
+impl Touched {
+    /// None.
+    #[inline(always)]
+    fn new() -> Touched {
+        Touched {
+            nodes: Set(0),
+            in_place: [InPlace::none(); 32],
+        }
+    }
+
+    /// Each of these nodes has one operand more, which stands so.
+    #[inline(always)]
+    fn add(&mut self, readers: Set, found: InPlace) {
+        self.nodes = self.nodes.or(readers);
+        let mut left = readers;
+        for _ in 0..32u8 {
+            let Some(k) = left.first() else {
+                break;
+            };
+            left = left.rest();
+            let place = k as usize % 32;
+            self.in_place[place] = self.in_place[place].with(found);
+        }
+    }
+}
+
 /// What stands in the cells of a state.
 #[inline(always)]
-fn in_cells(task: &Task, ahead: &Ahead, s: &State, rows: &Rows) -> InCells {
+fn in_cells(task: &Task, ahead: &Ahead, s: &State, rows: &Rows, touched: &mut Touched) -> Points {
     let mut all = InCells {
         points: Points(0),
-        touched: Set(0),
         alone: 0,
     };
     let mut seen = Set(0);
@@ -159,15 +175,18 @@ fn in_cells(task: &Task, ahead: &Ahead, s: &State, rows: &Rows) -> InCells {
         } else if !seen.has(k) {
             let held = holders(&s.cells, l);
             let copies = held.straight().or(held.complemented());
-            let readers = task.readers(l.node()).and(ahead.unmade);
+            let straight = task.readers(l).and(ahead.unmade);
+            let inverted = task.readers(l.complement()).and(ahead.unmade);
+            let found = InPlace::of(held);
+            touched.add(straight, found);
+            touched.add(inverted, found.complement());
             seen = seen.or(copies);
-            all.touched = all.touched.or(readers);
             if l.node() >= task.first && !rows.any.has(l.node()) {
-                all = all.with_alone(ahead, readers, copies);
+                all = all.with_alone(ahead, straight.or(inverted), copies);
             }
         }
     }
-    all
+    all.total()
 }
 
 /// The literals that lack a cell in which they are to be left.
@@ -194,21 +213,21 @@ fn of_left(task: &Task, ahead: &Ahead, s: &State) -> Points {
 
 /// The nodes that read what stands in cells, by how many operands are in place.
 #[inline(always)]
-fn of_nodes(task: &Task, ahead: &Ahead, cells: &Cells, touched: Set) -> Points {
+fn of_nodes(ahead: &Ahead, touched: &Touched) -> Points {
     let mut points = Points(0);
     let mut best = 0u32;
-    let mut left = touched;
-    for _ in 0..touched.len() {
-        if let Some(k) = left.first() {
-            left = left.without(k);
-            let [straight, complemented] = in_place(cells, task.operands(k));
-            let count = u32::max(straight, complemented) & 3;
-            if ahead.ready.has(k) {
-                points = points.plus(nth(READY, count));
-                best = u32::max(best, count);
-            } else {
-                points = points.plus(nth(NOT_READY, count));
-            }
+    let mut left = touched.nodes;
+    for _ in 0..32u8 {
+        let Some(k) = left.first() else {
+            break;
+        };
+        left = left.rest();
+        let count = touched.in_place[k as usize % 32].most();
+        if ahead.ready.has(k) {
+            points = points.plus(nth(READY, count));
+            best = u32::max(best, count);
+        } else {
+            points = points.plus(nth(NOT_READY, count));
         }
     }
     if !ahead.ready.is_empty() {
@@ -220,14 +239,15 @@ fn of_nodes(task: &Task, ahead: &Ahead, cells: &Cells, touched: Set) -> Points {
 /// The whole estimate of a state whose cells hold these nodes, where what is ahead is known.
 #[inline(always)]
 pub fn estimate(task: &Task, ahead: &Ahead, s: &State, rows: &Rows, held: Nodes) -> i32 {
-    let cells = in_cells(task, ahead, s, rows);
+    let mut touched = Touched::new();
+    let Points(cells) = in_cells(task, ahead, s, rows, &mut touched);
     let Points(outputs) = of_outputs(task, ahead, s, rows);
     let Points(left) = of_left(task, ahead, s);
-    let Points(nodes) = of_nodes(task, ahead, &s.cells, cells.touched);
+    let Points(nodes) = of_nodes(ahead, &touched);
     ahead
         .points
-        .with(LOAD, ahead.loads.minus(held).len())
-        .plus(cells.total().0)
+        .with(LOAD, ahead.loads_left(held))
+        .plus(cells)
         .plus(outputs)
         .plus(left)
         .plus(nodes)

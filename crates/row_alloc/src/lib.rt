@@ -11,6 +11,7 @@ mod body;
 mod bucket;
 mod cells;
 mod check;
+mod commands;
 mod estimate;
 mod found;
 mod greedy;

@@ -1,52 +1,14 @@
 //! The ways to make one node, and to fill the cells at exit.
 
-use crate::body::BodyCmd::{self, Aap, Ap};
+use crate::body::BodyCmd::{self, Aap};
 use crate::body::BodyRef::{B, Spill};
-use crate::cells::{Cells, Fills, NONE, Short, address_of, driven, lacking, raising};
+use crate::cells::{Cells, Fills, NONE, Short, address_of, driven, lack_none, lacking, raising};
+use crate::commands::Commands;
 use crate::outlook::{Rows, State, Task};
 use crate::set::{Nodes, Set};
 
 /// The most ways that are tried to bring the operands of a node in line.
 const MOST_WAYS: usize = 20;
-
-/// At most six commands.
-#[derive(Clone, Copy)]
-pub struct Commands {
-    list: [BodyCmd; 6],
-    count: u8,
-}
-
-impl Commands {
-    pub fn new() -> Commands {
-        Commands {
-            list: [Ap(B(0)); 6],
-            count: 0,
-        }
-    }
-
-    pub fn len(&self) -> u32 {
-        u32::from(self.count)
-    }
-
-    /// The command of this number.
-    pub fn get(&self, k: u8) -> Option<BodyCmd> {
-        if k < self.count && k < 6 {
-            Some(self.list[k as usize])
-        } else {
-            None
-        }
-    }
-
-    /// These commands and one more, where there is room.
-    pub fn then(&self, cmd: BodyCmd) -> Commands {
-        let mut all = *self;
-        if all.count < 6 {
-            all.list[all.count as usize] = cmd;
-            all.count += 1;
-        }
-        all
-    }
-}
 
 /// Some commands by which the operands of a node are brought in line, or on the way to it: what the
 /// cells hold after them, and the nodes in spill rows.
@@ -156,6 +118,8 @@ pub struct Job {
     pub outs: Set,
     /// What rows hold before.
     pub rows: Rows,
+    /// How many commands the steps after it take at least, apart from loads.
+    pub least: u32,
     /// The nodes that are wanted until it is made, and from then on.
     pub wanted: Nodes,
     pub wanted_after: Nodes,
@@ -170,39 +134,39 @@ pub struct LineUp {
     pub want: Cells,
 }
 
-/// The three literals in the cells of B12 to B15.
-fn placed(triple: u8, [a, b, c]: [Short; 3]) -> Cells {
-    Cells::of(match triple {
-        12 => [a, b, c, NONE, NONE, NONE],
-        13 => [NONE, a, b, c, NONE, NONE],
-        14 => [NONE, a, b, NONE, c, NONE],
-        _ => [a, NONE, NONE, b, NONE, c],
-    })
-}
+/// The six arrangements of three literals in the cells of B12, then those of B13, B14 and B15: for
+/// each literal the set of its cell.
+pub static ARRANGEMENTS: [[u32; 3]; 24] = [
+    [1, 2, 4],
+    [1, 4, 2],
+    [2, 1, 4],
+    [4, 1, 2],
+    [2, 4, 1],
+    [4, 2, 1],
+    [2, 4, 8],
+    [2, 8, 4],
+    [4, 2, 8],
+    [8, 2, 4],
+    [4, 8, 2],
+    [8, 4, 2],
+    [2, 4, 16],
+    [2, 16, 4],
+    [4, 2, 16],
+    [16, 2, 4],
+    [4, 16, 2],
+    [16, 4, 2],
+    [1, 8, 32],
+    [1, 32, 8],
+    [8, 1, 32],
+    [32, 1, 8],
+    [8, 32, 1],
+    [32, 8, 1],
+];
 
-/// The six orders of three.
+/// How many of three literals are not in place in an arrangement, where these cells hold each.
 #[inline(always)]
-fn ordered<T: Copy>(order: u8, [a, b, c]: [T; 3]) -> [T; 3] {
-    match order {
-        0 => [a, b, c],
-        1 => [a, c, b],
-        2 => [b, a, c],
-        3 => [b, c, a],
-        4 => [c, a, b],
-        _ => [c, b, a],
-    }
-}
-
-/// The cells of B12 to B15.
-const TRIPLES: [[u8; 3]; 4] = [[0, 1, 2], [1, 2, 3], [1, 2, 4], [0, 3, 5]];
-
-/// How many literals of the line-up of this number below 24 are not in place, where these cells
-/// hold each of the three.
-#[inline(always)]
-pub fn missing_in(number: u8, cells: [Set; 3]) -> u32 {
-    let [p, q, r] = TRIPLES[number as usize / 6 % 4];
-    let [a, b, c] = ordered(number % 6, cells);
-    !a.has(p) as u32 + !b.has(q) as u32 + !c.has(r) as u32
+pub fn missing_in([p, q, r]: [u32; 3], [a, b, c]: [Set; 3]) -> u32 {
+    !a.meets(Set(p)) as u32 + !b.meets(Set(q)) as u32 + !c.meets(Set(r)) as u32
 }
 
 /// The complements of three literals.
@@ -221,41 +185,42 @@ impl Job {
 }
 
 impl LineUp {
-    /// The line-up of this number below 24, for the node's literals or their complements.
+    /// The node's literals or their complements in the arrangement of this number.
     #[inline(always)]
-    pub fn new(number: u8, operands: [Short; 3]) -> LineUp {
-        let triple = 12 + number / 6 % 4;
+    pub fn new(number: usize, [p, q, r]: [u32; 3], [a, b, c]: [Short; 3]) -> LineUp {
+        let want = Cells::unknown().with(Set(p), a).with(Set(q), b);
         LineUp {
-            triple,
-            want: placed(triple, ordered(number % 6, operands)),
+            triple: 12 + (number / 6 % 4) as u8,
+            want: want.with(Set(r), c),
         }
     }
 
     /// Whether the operands are in line.
     #[inline(always)]
     pub fn is_ready(&self, cells: &Cells) -> bool {
-        lacking(&self.want, cells).is_empty()
+        lack_none(&self.want, cells)
     }
 
     /// The cells after the triple is activated.
     #[inline(always)]
     pub fn activated(&self, cells: &Cells, job: &Job) -> Cells {
-        cells.with(self.want.known(), job.sensed)
+        cells.over(&self.want, job.sensed)
     }
 
     /// Whether each of the cells that lack their literals can be loaded.
     #[inline(always)]
     fn can_load(&self, task: &Task, job: &Job, cells: &Cells, lacks: Set) -> bool {
         let mut left = lacks;
-        for _ in 0..lacks.len() {
-            if let Some(k) = left.first() {
-                left = left.without(k);
-                let l = self.want.get(k);
-                if task.source(&job.rows, cells, l).is_none()
-                    && (k < 4 || task.source(&job.rows, cells, l.complement()).is_none())
-                {
-                    return false;
-                }
+        for _ in 0..32u8 {
+            let Some(k) = left.first() else {
+                break;
+            };
+            left = left.rest();
+            let l = self.want.get(k);
+            if task.source(&job.rows, cells, l).is_none()
+                && (k < 4 || task.source(&job.rows, cells, l.complement()).is_none())
+            {
+                return false;
             }
         }
         true
@@ -280,14 +245,15 @@ impl LineUp {
         let free = way.cells.free(job.wanted).or(lacked);
         let worth = search.fills.worth(&way.cells, l, free);
         let mut left = worth.and(raising(k, turned));
-        for _ in 0..left.len() {
-            if let Some(y) = left.first() {
-                left = left.without(y);
-                let cells = driven(&way.cells, y, l);
-                let lacks = lacking(&self.want, &cells);
-                if lacks.minus(lacked).is_empty() && self.can_load(task, job, &cells, lacks) {
-                    search.ways.add(way.then(cells, Aap(from, B(y))));
-                }
+        for _ in 0..32u8 {
+            let Some(y) = left.first() else {
+                break;
+            };
+            left = left.rest();
+            let cells = driven(&way.cells, y, l);
+            let lacks = lacking(&self.want, &cells);
+            if lacks.minus(lacked).is_empty() && self.can_load(task, job, &cells, lacks) {
+                search.ways.add(way.then(cells, Aap(from, B(y))));
             }
         }
     }
@@ -310,15 +276,16 @@ impl LineUp {
     fn save_in_cells(&self, job: &Job, way: &Way, from: u8, l: Short, search: &mut Lines) {
         let free = way.cells.free(job.wanted);
         let mut left = search.fills.worth(&way.cells, l, free);
-        for _ in 0..left.len() {
-            if let Some(y) = left.first() {
-                left = left.without(y);
-                let cells = driven(&way.cells, y, l);
-                if self.is_ready(&cells) {
-                    let mut next = way.then(cells, Aap(B(from), B(y)));
-                    next.saved = true;
-                    search.ways.add(next);
-                }
+        for _ in 0..32u8 {
+            let Some(y) = left.first() else {
+                break;
+            };
+            left = left.rest();
+            let cells = driven(&way.cells, y, l);
+            if self.is_ready(&cells) {
+                let mut next = way.then(cells, Aap(B(from), B(y)));
+                next.saved = true;
+                search.ways.add(next);
             }
         }
     }
@@ -450,7 +417,7 @@ pub fn fill_left(task: &Task, s: &State) -> Option<Commands> {
             None => return Some(now.cmds),
         }
     }
-    if lacking(&task.leave, &now.cells).is_empty() {
+    if lack_none(&task.leave, &now.cells) {
         Some(now.cmds)
     } else {
         None

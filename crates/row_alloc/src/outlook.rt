@@ -2,7 +2,7 @@
 
 use crate::body::BodyRef::{self, B, C, In, Out, Spill};
 use crate::body::{Held, OutRow};
-use crate::cells::{Cells, NONE, Short, holders, lacking, reader};
+use crate::cells::{Cells, Lines, NONE, Short, holders, lack_none, reader};
 use crate::layout::{LAYOUT_COUNT, layout};
 use crate::set::{Nodes, Set};
 use dram_model::{Cell, Line};
@@ -30,8 +30,7 @@ impl State {
     /// Whether it holds all that the other one does, in the same cells and spill rows.
     #[inline(always)]
     pub fn covers(&self, other: &State) -> bool {
-        other.spilled.minus(self.spilled).is_empty()
-            && lacking(&other.cells, &self.cells).is_empty()
+        other.spilled.minus(self.spilled).is_empty() && lack_none(&other.cells, &self.cells)
     }
 
     /// A number of 16 bits that hangs on all of the state.
@@ -52,8 +51,20 @@ pub struct Rows {
     written: Set,
 }
 
+impl Rows {
+    /// With nodes that have a row of their own too.
+    #[inline(always)]
+    pub fn with_own(&self, nodes: Nodes) -> Rows {
+        Rows {
+            own: self.own.or(nodes),
+            any: self.any.or(nodes),
+            written: self.written,
+        }
+    }
+}
+
 /// The most nodes of a body that is searched for, the constant and its inputs among them.
-const MOST_SIZE: u32 = 64;
+const MOST_SIZE: u32 = 63;
 
 /// A graph with its outputs, as sets: which nodes each node reads, and what reads it.
 #[derive(Clone, Copy)]
@@ -64,8 +75,8 @@ pub struct Task {
     count: u8,
     outs: [Short; 8],
     written: Set,
-    /// For each node the majority nodes that read it.
-    readers: [Set; 64],
+    /// For each literal the majority nodes that read it.
+    readers: [Set; 128],
     /// For each literal the outputs that are it.
     outs_of: [Set; 128],
     /// For each input the outputs that stand in its row, and the inputs that have such outputs.
@@ -115,7 +126,7 @@ fn empty_task(inputs: u8) -> Task {
         count: 0,
         outs: [NONE; 8],
         written: Set(0),
-        readers: [Set(0); 64],
+        readers: [Set(0); 128],
         outs_of: [Set(0); 128],
         taken: [Set(0); 64],
         taking: Nodes(0),
@@ -160,8 +171,7 @@ impl Task {
         if k < 32 {
             let mut reads = Nodes(0);
             for l in operands {
-                let place = l.node() as usize % 64;
-                self.readers[place] = self.readers[place].with(k);
+                self.readers[l.place()] = self.readers[l.place()].with(k);
                 reads = reads.or(l.nodes());
             }
             self.nodes[k as usize] = operands;
@@ -247,10 +257,10 @@ impl Task {
         Short::new(u32::from(self.first) + u32::from(k), inverted)
     }
 
-    /// The majority nodes that read a node.
+    /// The majority nodes that read a literal.
     #[inline(always)]
-    pub fn readers(&self, node: u8) -> Set {
-        self.readers[node as usize % 64]
+    pub fn readers(&self, l: Short) -> Set {
+        self.readers[l.place()]
     }
 
     /// The nodes of these majority nodes.
@@ -263,11 +273,12 @@ impl Task {
     pub fn read_by(&self, unmade: Set) -> Nodes {
         let mut nodes = self.left;
         let mut left = unmade;
-        for _ in 0..unmade.len() {
-            if let Some(k) = left.first() {
-                left = left.without(k);
-                nodes = nodes.or(self.reads(k));
-            }
+        for _ in 0..32u8 {
+            let Some(k) = left.first() else {
+                break;
+            };
+            left = left.rest();
+            nodes = nodes.or(self.reads(k));
         }
         nodes
     }
@@ -277,11 +288,12 @@ impl Task {
     pub fn named_by(&self, unwritten: Set) -> Nodes {
         let mut nodes = Nodes(0);
         let mut left = unwritten;
-        for _ in 0..unwritten.len() {
-            if let Some(j) = left.first() {
-                left = left.without(j);
-                nodes = nodes.or(self.output(j).nodes());
-            }
+        for _ in 0..32u8 {
+            let Some(j) = left.first() else {
+                break;
+            };
+            left = left.rest();
+            nodes = nodes.or(self.output(j).nodes());
         }
         nodes
     }
@@ -291,12 +303,13 @@ impl Task {
     fn lost_inputs(&self, unwritten: Set) -> Nodes {
         let mut nodes = Nodes(0);
         let mut left = self.taking;
-        for _ in 0..self.taking.len() {
-            if let Some(node) = left.first() {
-                left = left.without(node);
-                if !self.taken[node as usize % 64].minus(unwritten).is_empty() {
-                    nodes = nodes.with(node);
-                }
+        for _ in 0..64u8 {
+            let Some(node) = left.first() else {
+                break;
+            };
+            left = left.rest();
+            if !self.taken[node as usize % 64].minus(unwritten).is_empty() {
+                nodes = nodes.with(node);
             }
         }
         nodes
@@ -388,33 +401,58 @@ static MET: [u16; 64] = [
     0x1111, 0x1111, 0x1111, 0x1111,
 ];
 
-/// For each of the triples one digit: whether it has a cell of the set.
-#[inline(always)]
-fn met(cells: Set) -> u16 {
-    MET[cells.0 as usize % 64]
-}
+/// How many of a node's operands, and of their complements, stand in place in each of the triples:
+/// four digits of four bits for the operands, and from bit 16 on four for the complements.
+#[derive(Clone, Copy)]
+pub struct InPlace(u32);
 
-/// The greatest of four digits.
-#[inline(always)]
-fn most(digits: u16) -> u32 {
-    let a = u16::max(digits & 15, digits >> 4 & 15);
-    let b = u16::max(digits >> 8 & 15, digits >> 12 & 15);
-    u32::from(u16::max(a, b))
-}
+impl InPlace {
+    /// None.
+    pub fn none() -> InPlace {
+        InPlace(0)
+    }
 
-/// In how many of three sets the best of the triples has a cell.
-#[inline(always)]
-fn best(a: Set, b: Set, c: Set) -> u32 {
-    most(met(a).wrapping_add(met(b)).wrapping_add(met(c)))
+    /// Of one operand: the triples that have one of the cells that hold it, and those that have one
+    /// that holds its complement.
+    #[inline(always)]
+    pub fn of(found: Lines) -> InPlace {
+        let straight = MET[found.straight().0 as usize % 64];
+        let complemented = MET[found.complemented().0 as usize % 64];
+        InPlace(u32::from(straight) | u32::from(complemented) << 16)
+    }
+
+    /// Of the operand's complement.
+    #[inline(always)]
+    pub fn complement(self) -> InPlace {
+        InPlace(self.0 >> 16 | self.0 << 16)
+    }
+
+    /// With another operand. There are at most three.
+    #[inline(always)]
+    pub fn with(self, other: InPlace) -> InPlace {
+        InPlace(self.0.wrapping_add(other.0))
+    }
+
+    /// The greatest digit.
+    #[inline(always)]
+    pub fn most(self) -> u32 {
+        if self.0 & self.0 >> 1 & 0x11111111 != 0 {
+            3
+        } else if self.0 & 0x22222222 != 0 {
+            2
+        } else {
+            (self.0 != 0) as u32
+        }
+    }
 }
 
 /// How many of three literals, and how many of their complements, stand in place in the best of the
 /// triples.
 #[inline(always)]
 pub fn in_place(cells: &Cells, [a, b, c]: [Short; 3]) -> [u32; 2] {
-    let (a, b, c) = (holders(cells, a), holders(cells, b), holders(cells, c));
-    [
-        best(a.straight(), b.straight(), c.straight()),
-        best(a.complemented(), b.complemented(), c.complemented()),
-    ]
+    let a = InPlace::of(holders(cells, a));
+    let b = InPlace::of(holders(cells, b));
+    let c = InPlace::of(holders(cells, c));
+    let all = a.with(b).with(c);
+    [InPlace(all.0 & 0xFFFF).most(), InPlace(all.0 >> 16).most()]
 }

@@ -62,6 +62,12 @@ impl Set {
         }
     }
 
+    /// The others than the least.
+    #[inline(always)]
+    pub fn rest(self) -> Set {
+        Set(self.0 & self.0.wrapping_sub(1))
+    }
+
     #[inline(always)]
     pub fn is_empty(self) -> bool {
         self.0 == 0
@@ -123,6 +129,12 @@ impl Nodes {
     #[inline(always)]
     pub fn meets(self, other: Nodes) -> bool {
         self.0 & other.0 != 0
+    }
+
+    /// The others than the least.
+    #[inline(always)]
+    pub fn rest(self) -> Nodes {
+        Nodes(self.0 & self.0.wrapping_sub(1))
     }
 
     #[inline(always)]
