@@ -1,7 +1,7 @@
 -- What a command that is done delivers.
 use Rattle.std.proofs.Common.{◌≡◌, ◌⊎◌, ℕ, ◌≤◌, Bool, true, false, cond, List, [], ◌∷◌, ◌++◌, length}
 use Rattle.std.proofs.Common.{Option, Some, None, refl, sym, ◌∙◌, ap, subst, inl, inr}
-use Rattle.std.proofs.Common.{append_assoc}
+use Rattle.std.proofs.Common.{append-nil, append_assoc}
 use Rattle.std.specs.Prelude.{IfSome, nat_lt}
 use Rattle.std.proofs.lemmas.Bool.{ltb-false}
 use Rattle.dram_model.specs.View.{ChipView}
@@ -97,43 +97,43 @@ text_in : (file : Option (List ℕ)) (bytes text : List ℕ) → file ≡ Some b
 text_in None bytes text e h = absurd (cc)
 text_in (Some b) bytes text e h = let same : b ≡ bytes = cc in sym same ∙ h
 
-delivered : (plan : Plan) (way : Way plan) (before after : Files) (said : List ℕ) (chip : ChipView)
-    (status : ℕ) → foreseen (steps_of plan way) before ≡ Done → AreTexts plan way before
-    → Leaves plan way chip → refused_last plan way ≡ None → status ≡ last_status plan way
-    → after ≡ files_after (steps_of plan way) before → said ≡ sent_by (steps_of plan way)
-    → Delivers plan before after said chip status
-delivered (Loads name limit read rest) (inl cut) before after said chip status f t l r s a b = elim l [ ]
-delivered (Loads name limit read rest) (inr (text, inl (value, is, way))) before after said chip status f t
-    l r s a b =
-    let h = load_there name limit None (before name) (foreseen (steps_of (rest text value) way) before) f in
-    let same = text_in (before name) h.bytes text h.there t.0 in (
+delivered : (plan : Plan) (way : Way plan) (before after : Files) (sent said : List ℕ)
+    (chip : ChipView) (status : ℕ) → foreseen (steps_of plan way) before ≡ Done
+    → AreTexts plan way before → Leaves plan way chip → refused_last plan way ≡ None
+    → status ≡ last_status plan way → after ≡ files_after (steps_of plan way) before
+    → said ≡ sent ++ sent_by (steps_of plan way)
+    → Delivers plan before after sent said chip status
+delivered (Loads name limit read rest) (inl cut) before after sent said chip status f t l r s a b =
+    elim l [ ]
+delivered (Loads name limit read rest) (inr (text, inl (value, is, way))) before after sent said chip
+    status f t l r s a b =
+    let h = load_there name limit None (before name) (foreseen (steps_of (rest text value) way) before) f in (
       text,
-      h.there ∙ ap (λ x. Some x) same,
-      subst (λ (x : List ℕ). length x ≤ limit) same h.within,
+      h.there ∙ ap (λ x. Some x) (text_in (before name) h.bytes text h.there t.0),
       value,
       is,
-      delivered (rest text value) way before after said chip status h.goes_on t.1 l r s a b,
+      delivered (rest text value) way before after sent said chip status h.goes_on t.1 l r s a b,
     )
-delivered (Loads name limit read rest) (inr (text, inr (refusal, is))) before after said chip status f t l
-    r s a b = elim l [ ]
-delivered (Makes P rest) (inl cut) before after said chip status f t l r s a b = elim l [ ]
-delivered (Makes P rest) (inr (value, has, way)) before after said chip status f t l r s a b =
-    (value, has, delivered (rest value) way before after said chip status f t l r s a b)
-delivered (Then steps rest) way before after said chip status f t l r s a b = (
-  sent_by (steps_of rest way),
-  b ∙ sent_append steps (steps_of rest way),
-  delivered rest way (files_after steps before) after (sent_by (steps_of rest way)) chip status
-      (foreseen_rest steps (steps_of rest way) before f) t l r s
-      (a ∙ files_append steps (steps_of rest way) before) refl,
-)
-delivered (Answers own left) way before after said chip status f t l r s a b = (a, b, s, l)
-delivered (Refuses refusal left) way before after said chip status f t l r s a b = absurd (cc)
+delivered (Loads name limit read rest) (inr (text, inr (refusal, is))) before after sent said chip status
+    f t l r s a b = elim l [ ]
+delivered (Makes P rest) (inl cut) before after sent said chip status f t l r s a b = elim l [ ]
+delivered (Makes P rest) (inr (value, has, way)) before after sent said chip status f t l r s a b =
+    (value, has, delivered (rest value) way before after sent said chip status f t l r s a b)
+delivered (Then steps rest) way before after sent said chip status f t l r s a b =
+    let more = steps_of rest way in
+    delivered rest way (files_after steps before) after (sent ++ sent_by steps) said chip status
+    (foreseen_rest steps more before f) t l r s (a ∙ files_append steps more before)
+    (b ∙ ap (λ x. sent ++ x) (sent_append steps more)
+    ∙ sym (append_assoc sent (sent_by steps) (sent_by more)))
+delivered (Answers own left) way before after sent said chip status f t l r s a b =
+    (a, b ∙ append-nil sent, s, l)
+delivered (Refuses refusal left) way before after sent said chip status f t l r s a b = absurd (cc)
 
 -- what is known of the files and of what was sent after a command that is done
 abbrev pub IsDelivered : Plan → World → World → ℕ → Type 0
 IsDelivered plan old new status = Known (λ before after. (said : List ℕ)
     × Known (λ x y. y ≡ x ++ said) old.sink.sent new.sink.sent
-    × Delivers plan before after said new.chip status) old.files.holds new.files.holds
+    × Delivers plan before after [] said new.chip status) old.files.holds new.files.holds
 
 known_with : (a b : Option Files) (R Q : Files → Files → Type 0) (P : Files → Type 0)
     → Known R a b → IfSome a P
@@ -171,7 +171,7 @@ plan_delivers F D plan old new status g apart e =
         known_with old.files.holds new.files.holds
         (λ before after. after ≡ files_after steps before)
         (λ before after. (said : List ℕ) × Known (λ x y. y ≡ x ++ said) old.sink.sent new.sink.sent
-        × Delivers plan before after said new.chip status)
+        × Delivers plan before after [] said new.chip status)
         (λ files. (foreseen steps files ≡ Done) × AreTexts plan e.way files)
         (subst (λ (w : World). Known (λ before after. after ≡ files_after steps before)
         old.files.holds w.files.holds) (sym same) so.files)
@@ -180,7 +180,7 @@ plan_delivers F D plan old new status g apart e =
         (λ before after p a. (
           sent_by steps,
           sent,
-          delivered plan e.way before after (sent_by steps) new.chip status p.0 p.1 left none
+          delivered plan e.way before after [] (sent_by steps) new.chip status p.0 p.1 left none
               so.answers a refl,
         ))
 
@@ -196,13 +196,13 @@ pub if_delivered : (plan : Plan) (old new : World) (status : ℕ) (Q : Files →
     → IsDelivered plan old new status
     → ((before after : Files) (said : List ℕ)
     → Known (λ x y. y ≡ x ++ said) old.sink.sent new.sink.sent
-    → Delivers plan before after said new.chip status → Q before)
+    → Delivers plan before after [] said new.chip status → Q before)
     → IfSome old.files.holds Q
 if_delivered plan old new status Q d h = by_cases old.files.holds new.files.holds d
   where
     by_cases : (a b : Option Files) → Known (λ before after. (said : List ℕ)
         × Known (λ x y. y ≡ x ++ said) old.sink.sent new.sink.sent
-        × Delivers plan before after said new.chip status) a b → IfSome a Q
+        × Delivers plan before after [] said new.chip status) a b → IfSome a Q
     by_cases None b d = tt
     by_cases (Some before) None d = absurd d
     by_cases (Some before) (Some after) d = h before after d.0 d.1 d.2
@@ -213,13 +213,13 @@ pub known_delivered : (plan : Plan) (old new : World) (status : ℕ) (Q : Files 
     → IsDelivered plan old new status
     → ((before after : Files) (said : List ℕ)
     → Known (λ x y. y ≡ x ++ said) old.sink.sent new.sink.sent
-    → Delivers plan before after said new.chip status → Q before after)
+    → Delivers plan before after [] said new.chip status → Q before after)
     → Known Q old.files.holds new.files.holds
 known_delivered plan old new status Q d h = by_cases old.files.holds new.files.holds d
   where
     by_cases : (a b : Option Files) → Known (λ before after. (said : List ℕ)
         × Known (λ x y. y ≡ x ++ said) old.sink.sent new.sink.sent
-        × Delivers plan before after said new.chip status) a b → Known Q a b
+        × Delivers plan before after [] said new.chip status) a b → Known Q a b
     by_cases None b d = tt
     by_cases (Some before) None d = absurd d
     by_cases (Some before) (Some after) d = h before after d.0 d.1 d.2

@@ -1,12 +1,11 @@
 -- The parts of a recorded execution.
 use Rattle.std.proofs.Common.{◌≡◌, ℕ, ◌+◌, ◌*◌, ◌≤◌, Bool, true, false, List, [], ◌∷◌, ◌++◌}
 use Rattle.std.proofs.Common.{Some, None, refl, sym, ◌∙◌, ap, subst, inl, inr, length}
-use Rattle.std.proofs.Common.{append-nil, append_assoc, add_assoc}
+use Rattle.std.proofs.Common.{append-nil, append_assoc}
 use Rattle.std.specs.Prelude.{Option, Result, Ok, Err, count_by}
 use Rattle.std.specs.List.{AllByRecursion}
 use Rattle.faults.specs.Counts.{Rose}
 use Rattle.host_edge.specs.Views.{AppendsPart, FolderView, SinkView, Known}
-use Rattle.dram_model.specs.declared.dram.Counters.{Counters}
 use Rattle.dram_model.specs.declared.geometry.Geometry.{Geometry}
 use Rattle.dram_model.specs.Geometry.{is_geometry}
 use Rattle.dram_model.specs.Chip.{Banks, Event, Grew, after, all_counted}
@@ -26,10 +25,8 @@ use Rattle.machine_model.specs.Pieces.{piece_events, turn_after}
 use Rattle.machine_model.specs.Report.{Said, line, said_by, said_in_rows, total_line}
 use Rattle.machine_model.specs.Script.{banks_at_end, is_refused, replies, rows_printed, sum_done}
 use Rattle.machine_model.specs.Script.{table_at_end}
-use Rattle.machine_model.proofs.Pieces.{events_are_steps}
 use Rattle.sim_machine.specs.declared.machine.Machine.{Machine}
 use Rattle.sim_machine.specs.Machine.{geometry_of, is_print, program_of, table_in}
-use Rattle.sim_machine.specs.Opening.{machine_on}
 use Rattle.sim_machine.specs.Steps.{DidAndRead}
 use Rattle.object_steps.specs.Objects.{LiesOn}
 use Rattle.trace_model.specs.Replay.{script_trace}
@@ -52,10 +49,10 @@ use Rattle.simdram_cli.specs.declared.words.TraceNames.{TraceNames}
 use Rattle.simdram_cli.specs.declared.stop.Stop.{Stop}
 use Rattle.simdram_cli.specs.declared.stop.Stop.TheVariants as stop
 use Rattle.simdram_cli.specs.Stops.{reason_of, trace_full}
-use Rattle.simdram_cli.specs.Job.{done_status, image_by, instr_steps, opened_counters, piece_steps}
-use Rattle.simdram_cli.specs.Job.{opening, pieces_steps, put_lines, reading, reading_by}
-use Rattle.simdram_cli.specs.Job.{refused_by, script_steps, tally_by}
-use Rattle.simdram_cli.specs.Plans.{said_of}
+use Rattle.simdram_cli.specs.Job.{done_status, instr_steps, piece_steps}
+use Rattle.simdram_cli.specs.Job.{opening, pieces_steps, put_lines, reading}
+use Rattle.simdram_cli.specs.Job.{refused_by, script_steps}
+use Rattle.simdram_cli.specs.Plans.{script_said}
 use Rattle.simdram_cli.specs.Works.{WorkDone}
 use Rattle.simdram_cli.specs.Tracing.{OpensOn, ScriptRecorded, ScriptTraced, TraceLeft, events_on}
 use Rattle.simdram_cli.specs.Tracing.{fits, full_plan, image_on, reading_on, reads_on}
@@ -66,7 +63,6 @@ use Rattle.simdram_cli.proofs.Performing.{Started, first_are, first_steps, left_
 use Rattle.simdram_cli.proofs.Performing.{own_table, reads_twice, total_is}
 use Rattle.simdram_cli.proofs.Progress.{holds_of}
 use Rattle.simdram_cli.proofs.Stores.{nothing_read, sent, use_broke, used}
-use Rattle.simdram_cli.proofs.Tallies.{tally_is}
 
 -- a script is done, and the image after it stored
 
@@ -575,7 +571,7 @@ own_count program script i chip refused w = record {
 pub script_runs : (names : TraceNames) (program : Program) (script : List Instruction) (i : Image)
     (result : Result ℕ Stop) (old new : World) → IsImage i.geometry i.table i.rows
     → AllByRecursion IsPlain script → ScriptTraced names program script i old new result
-    → Runs (traced_plan names program script i) old new (said_of result)
+    → Runs (traced_plan names program script i) old new (script_said result)
 script_runs names program script i (Ok refused) old new is plain w =
     runs_then (traced_steps names program script i) _ _ old new new w.1
     (full_done (fits program script i) program script i refused new

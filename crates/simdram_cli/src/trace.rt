@@ -1,9 +1,8 @@
 //! The command `trace`.
 
-ghost use Rattle.std.specs.Prelude.{◌≡◌, ◌+◌, ◌*◌, ◌<◌, ◌≤◌, ◌^◌, ◌++◌, ◌∷◌, [], length, map};
-ghost use Rattle.std.specs.Prelude.{IfOk, OnOk, count_by};
+ghost use Rattle.std.specs.Prelude.{◌≡◌, ◌+◌, ◌<◌, ◌≤◌, ◌^◌, length, map};
+ghost use Rattle.std.specs.Prelude.{OnOk};
 ghost use Rattle.std.specs.List.{AllByRecursion};
-ghost use Rattle.host_edge.specs.Views.{FolderView};
 ghost use Rattle.dram_model.specs.View.{HasBegun};
 ghost use Rattle.object_alloc.specs.Exact.{found_in};
 ghost use Rattle.object_alloc.specs.Reading.{rows_size};
@@ -14,13 +13,14 @@ ghost use Rattle.machine_model.specs.Agrees.{IsPlain};
 ghost use Rattle.machine_model.specs.Opened.{Image as ImageOf};
 ghost use Rattle.machine_model.specs.Routines.{Program};
 ghost use Rattle.cli_model.specs.World.{world};
-ghost use Rattle.sim_machine.specs.Machine.{geometry_of, operations_by, table_in};
+ghost use Rattle.sim_machine.specs.Machine.{geometry_of};
 ghost use Rattle.simdram_cli.specs.Inputs.{image_found};
 ghost use Rattle.cli_model.specs.Runs.{Runs};
 ghost use Rattle.simdram_cli.specs.Plans.{said_of};
 ghost use Rattle.simdram_cli.specs.Tracing.{OpensOn, ScriptRecorded, ScriptTraced};
 ghost use Rattle.simdram_cli.specs.Tracing.{trace_image_plan, trace_job_plan, trace_plan};
 
+use crate::completion::{Completion, completed};
 use crate::job::image_stop;
 use crate::load::{load, load_script};
 use crate::perform::{open, work_to_image};
@@ -118,7 +118,7 @@ fn trace_image<'a, F: Folder, S: Sink, D: Dram>(
     out: &mut S,
     chip: &mut D,
     alloc: Global,
-) -> Result<u64, Stop<'a>>
+) -> Result<Completion, Stop<'a>>
     requires legal { IsProgram prog.programs }
     requires plain { AllByRecursion IsPlain (map view_of script.now) }
     requires few { length script.now ≤ SCRIPT_MAX + 1 }
@@ -132,7 +132,7 @@ fn trace_image<'a, F: Folder, S: Sink, D: Dram>(
         Ok(image) => image,
         Err(no) => return Err(image_stop(no)),
     };
-    trace_script(prog, script, image, names, files, out, chip, alloc)
+    completed(trace_script(prog, script, image, names, files, out, chip, alloc))
 }
 
 /// Loads SCRIPT, and does it on IMAGE over a recorder.
@@ -143,7 +143,7 @@ fn trace_with<'a, F: Folder, S: Sink, D: Dram>(
     out: &mut S,
     chip: &mut D,
     alloc: Global,
-) -> Result<u64, Stop<'a>>
+) -> Result<Completion, Stop<'a>>
     requires legal { IsProgram prog.programs }
     ensures borrow { D.borrow chip.new ≡ D.borrow chip.old }
     ensures runs { Runs (trace_job_plan names.now prog.entry.programs)
@@ -154,15 +154,14 @@ fn trace_with<'a, F: Folder, S: Sink, D: Dram>(
     trace_image(prog, &script, names, files, out, chip, alloc)
 }
 
-/// Does SCRIPT on IMAGE with the program of PROG, and stores the trace of its events; answers how
-/// many instructions were refused.
+/// Does SCRIPT on IMAGE with the program of PROG, and stores the trace of its events.
 pub(crate) fn trace<'a, F: Folder, S: Sink, D: Dram>(
     names: &TraceNames<'a>,
     files: &mut F,
     out: &mut S,
     chip: &mut D,
     alloc: Global,
-) -> Result<u64, Stop<'a>>
+) -> Result<Completion, Stop<'a>>
     ensures borrow { D.borrow chip.new ≡ D.borrow chip.old }
     ensures runs { Runs (trace_plan names.now)
         (world (F.view files.old) (S.view out.old) (D.view chip.old))

@@ -1,4 +1,4 @@
-use Rattle.std.proofs.Common.{[], inl, inr, refl, map, sym, ◌≡◌, ◌++◌, ◌∙◌}
+use Rattle.std.proofs.Common.{inl, inr, refl, map, sym, ◌≡◌, ◌++◌, ◌∙◌}
 use Rattle.std.proofs.lemmas.Result.{err_from_is_err_and}
 use Rattle.host_edge.specs.Views.{AppendsPart}
 use Rattle.object_alloc.specs.Exact.{found_in}
@@ -7,7 +7,7 @@ use Rattle.machine_model.specs.Report.{total_line}
 use Rattle.cli_model.specs.World.{world}
 use Rattle.cli_model.specs.Steps.{Done, PutFailed, Stopped}
 use Rattle.simdram_cli.specs.Inputs.{image_found}
-use Rattle.simdram_cli.proofs.Performing.{Started, all_done, own_first, started_on, stopped_first}
+use Rattle.simdram_cli.proofs.Performing.{all_done, own_first, started_on, stopped_first}
 use Rattle.simdram_cli.proofs.Performing.{stopped_open, total_is, went_on}
 use Rattle.simdram_cli.proofs.Progress.{holds_on}
 use Rattle.simdram_cli.proofs.Stores.{at_err, at_ok, sent}
@@ -73,10 +73,13 @@ returns-then-is_err-clause-goes g c =
     went_on c.args.name.now program script i (Stopped PutFailed) a b d e (opened.goes files out)
     (own_first c.args.name.now program script i machine start Done b d started worked.goes)
     (total_is program script i last refused (Stopped PutFailed) d e done
-    (inr (refl, sent (AppendsPart (total_line last.counters refused)) stores lines
-    (g.S.Sink.view c.put_total.new.out) last
-    (at_err c.put_total.result bad c.put_total.ensures.part) c.put_total.ensures.faults,
-    at_err c.put_total.result bad c.put_total.ensures.rose)))
+    (inr (
+      refl,
+      sent (AppendsPart (total_line last.counters refused)) stores lines
+          (g.S.Sink.view c.put_total.new.out) last
+          (at_err c.put_total.result bad c.put_total.ensures.part) c.put_total.ensures.faults,
+      at_err c.put_total.result bad c.put_total.ensures.rose,
+    )))
 
 pub returns-clause-goes : goal.returns-clause-goes
 returns-clause-goes g c =
@@ -104,10 +107,16 @@ returns-clause-goes g c =
     went_on c.args.name.now program script i Done a b d e (opened.goes files out)
     (own_first c.args.name.now program script i machine start Done b d started worked.goes)
     (total_is program script i last refused Done d e done
-    (inl (e, (sent (λ before after. after ≡ before ++ total_line last.counters refused) stores lines
-    (g.S.Sink.view c.put_total.new.out) last
-    (at_ok c.put_total.result (sym c.is_err.ensures.value ∙ c.if-is_err.false)
-    c.put_total.ensures.sent) c.put_total.ensures.faults, refl))))
+    (inl (
+      e,
+      (
+        sent (λ before after. after ≡ before ++ total_line last.counters refused) stores lines
+            (g.S.Sink.view c.put_total.new.out) last
+            (at_ok c.put_total.result (sym c.is_err.ensures.value ∙ c.if-is_err.false)
+            c.put_total.ensures.sent) c.put_total.ensures.faults,
+        refl,
+      ),
+    )))
 
 pub returns-clause-done : goal.returns-clause-done
 returns-clause-done g c =
