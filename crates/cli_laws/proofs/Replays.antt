@@ -34,7 +34,7 @@ use Rattle.simdram_cli.specs.Inputs.{image_found, image_of, image_or_refusal}
 use Rattle.simdram_cli.specs.Replay.{replay_plan}
 use Rattle.simdram_cli.specs.Traces.{geometry_differs, if_same, image_for, trace_or_refusal}
 use Rattle.simdram_cli.specs.Tracing.{Traced, trace_of}
-use Rattle.simdram_cli.proofs.Planned.{IsFailing, failing_apart}
+use Rattle.simdram_cli.proofs.Planned.{IsFailing, failing_apart, zero_tells}
 use Rattle.simdram_cli.proofs.Replaying.{geometry_same, none_loads, replay_gives}
 use Rattle.cli_laws.specs.Replays.{IsDoneUnlessFault, TracesAreAccepted, TracesReplay}
 use Rattle.cli_laws.specs.Replays.{statuses_by_fault}
@@ -137,7 +137,7 @@ good_ends again c d code good e = by_cases e.ends.ended e.ends.so e.ends.foretol
     by_cases (At stop) so known left =
         let F = IsFailing (Replay again) in
         let fault = stop_by_fault F (λ s. s ≡ 0) plan stop c e.stood code
-        (λ s zero f. failing_apart (Replay again) s (inl zero) f) good e.way e.texts
+        (λ s zero f. failing_apart (Replay again) s (zero_tells s zero) f) good e.way e.texts
         (steps_give F (CanAnswer (Replay again)) plan (replay_gives again) e.way) known so in
         (fault, subst IsByFault (sym so.answers) (reason_by_fault stop.reason fault))
 

@@ -1,8 +1,8 @@
 -- The facts of an account: its statuses, files, memory, and what one that is done has sent.
-use Rattle.std.proofs.Common.{◌≡◌, Bool, true, false, cond, ℕ, List, [], ◌∷◌, ◌++◌, Option, Some}
-use Rattle.std.proofs.Common.{None, refl, sym, ◌∙◌, ap, subst}
+use Rattle.std.proofs.Common.{◌≡◌, ℕ, List, [], ◌∷◌, ◌++◌, Option}
 use Rattle.std.proofs.Common.{append-nil}
-use Rattle.std.specs.Prelude.{Result, Err, IfSome, bytes_eq, codes}
+use Rattle.std.proofs.Common.{None, refl, sym, ◌∙◌, subst}
+use Rattle.std.specs.Prelude.{Result, Err}
 use denote.Ref.{Bor}
 use Rattle.dram_model.specs.View.{ChipView}
 use Rattle.host_edge.specs.Views.{Files, FolderView, SinkView, Known}
@@ -25,19 +25,16 @@ use Rattle.simdram_cli.specs.declared.account.ProgramAccount.{ProgramAccount}
 use Rattle.simdram_cli.specs.declared.words.AccountNames.{AccountNames}
 use Rattle.simdram_cli.specs.declared.words.Command.TheVariants.{Account as AccountOf}
 use Rattle.simdram_cli.specs.declared.words.TheConstants.{OPS_MAX, PROG_MAX}
-use Rattle.simdram_cli.specs.declared.account.ProgramAccount.TheVariants.{Listing}
-use Rattle.simdram_cli.specs.Accounts.{HasWidths, account_named}
 use Rattle.simdram_cli.specs.Accounts.{Accounted, ProgramTold, OpsTold, account_plan, program_plan}
 use Rattle.simdram_cli.specs.Accounts.{StopsBefore, program_text, ops_plan, text_plan, told_plan}
 use Rattle.simdram_cli.specs.Commands.{CanAnswer}
-use Rattle.simdram_cli.specs.Complete.{IsAccountFile, IsGood}
+use Rattle.simdram_cli.specs.GoodFiles.{IsAccountFile, IsGood}
 use Rattle.simdram_cli.specs.Inputs.{ops_in}
 use Rattle.simdram_cli.specs.Programs.{prog_in}
-use Rattle.simdram_cli.proofs.Completes.{IsOneOf}
 use Rattle.simdram_cli.proofs.JobPlans.{good_file, ops_refuses, prog_refuses}
-use Rattle.simdram_cli.proofs.Migrating.{one_sent, read_from}
+use Rattle.simdram_cli.proofs.Migrating.{read_from}
 use Rattle.simdram_cli.proofs.OpsPlans.{spells_at}
-use Rattle.simdram_cli.proofs.Planned.{GivesOwn, IsFailing}
+use Rattle.simdram_cli.proofs.Planned.{GivesOwn, IsFailing, IsOneOf, Proved, spares_by, zero_tells}
 
 -- the file of a program that was opened
 abbrev pub opened_file : (file : File) (text : List ℕ) → file.bytes ≡ text
@@ -50,16 +47,6 @@ opened_file file text same spelled = record {
   has = spelled.1;
   spelled = sym same ∙ spelled.2;
 }
-
--- an account that is asked for by its word has widths where it needs them
-named_width : (a b : Bool) → IfSome (cond a (Some Canonical)
-    (cond b (Some (OfProgram Listing)) None)) HasWidths
-named_width true b = tt
-named_width false true = tt
-named_width false false = tt
-
-pub named_right : (verb : List ℕ) → IfSome (account_named verb) HasWidths
-named_right verb = named_width (bytes_eq verb (codes "show")) (bytes_eq verb (codes "list"))
 
 own_gives : (file : Bor (List ℕ)) (account : Account)
     → GivesOwn (AccountOf (record { file = file; account = account })) (account_plan file.now account)
@@ -131,28 +118,15 @@ ops_told text_of name old new status d =
     (λ before after said sent (
       text,
       there,
-      within,
       u,
       is,
-      (
-        ops,
-        has,
-        (
-          more,
-          e,
-          (
-            last,
-            f,
-            (same, none, own, left),
-          ),
-        ),
-      ),
+      (ops, has, (same, all, own, left)),
     ). record {
       ops = ops;
       is = spells_at (before name) text ops there has;
       files = same;
       sent = subst (λ (bytes : List ℕ). Known (λ x y. y ≡ x ++ bytes) old.sink.sent new.sink.sent)
-          (one_sent said more last (text_of ops) e f none) sent;
+          (all ∙ append-nil (text_of ops)) sent;
     })
 
 program_told : (name : List ℕ) (account : ProgramAccount) (old new : World) (status : ℕ)
@@ -165,22 +139,9 @@ program_told name account old new status d =
     (λ before after said sent (
       text,
       there,
-      within,
       program,
       is,
-      (
-        u,
-        file,
-        (
-          one,
-          e,
-          (
-            two,
-            f,
-            (same, none, answers, left),
-          ),
-        ),
-      ),
+      (u, file, (same, all, answers, left)),
     ).
     let own = read_from (before name) text program there is file in
     record {
@@ -191,7 +152,7 @@ program_told name account old new status d =
       is = own.is;
       files = same;
       sent = subst (λ (bytes : List ℕ). Known (λ x y. y ≡ x ++ bytes) old.sink.sent new.sink.sent)
-          (one_sent said one two (program_text account program) e f none) sent;
+          (all ∙ append-nil (program_text account program)) sent;
     })
 
 pub accounted : (name : List ℕ) (account : Account) (old new : World) (status : ℕ)
@@ -200,3 +161,15 @@ pub accounted : (name : List ℕ) (account : Account) (old new : World) (status 
     new.files.holds
 accounted name Canonical old new status d = ops_told canonical_text name old new status d
 accounted name (OfProgram account) old new status d = program_told name account old new status d
+
+pub account_proved : (names : AccountNames) → Proved (AccountOf names)
+account_proved names = record {
+  gives = account_gives names;
+  not_one = account_not_one names;
+  good = λ holds are good. account_good names.file.now names.account holds good;
+  spares = spares_by None (account_plan names.file.now names.account)
+      (account_takes names.file.now names.account);
+  tells = zero_tells;
+  promised = λ old new status d.
+      accounted names.file.now names.account old new status d.delivers;
+}

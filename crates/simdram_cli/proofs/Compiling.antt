@@ -14,12 +14,11 @@ use Rattle.simdram_cli.specs.declared.words.Command.TheVariants.{Compile}
 use Rattle.simdram_cli.specs.declared.words.CompileNames.{CompileNames}
 use Rattle.simdram_cli.specs.declared.words.TheConstants.{OPS_MAX}
 use Rattle.simdram_cli.specs.Compile.{Compiled, compile_plan, compiled_line}
-use Rattle.simdram_cli.specs.Complete.{IsOps}
+use Rattle.simdram_cli.specs.GoodFiles.{IsOps}
 use Rattle.simdram_cli.specs.Ends.{IsCompiled}
 use Rattle.simdram_cli.specs.Inputs.{ops_in}
-use Rattle.simdram_cli.proofs.Completes.{IsOneOf}
 use Rattle.simdram_cli.proofs.JobPlans.{good_file, ops_refuses}
-use Rattle.simdram_cli.proofs.Planned.{GivesOwn, IsFailing}
+use Rattle.simdram_cli.proofs.Planned.{GivesOwn, IsFailing, IsOneOf, Proved, spares_by, zero_tells}
 use Rattle.cli_model.proofs.Files.{at_other, at_own, bytes_differ}
 
 pub compile_gives : (names : CompileNames) → GivesOwn (Compile names) (compile_plan names)
@@ -58,26 +57,9 @@ compiled names old new status d =
     (λ before after said sent (
       text,
       there,
-      within,
       u,
       is,
-      (
-        program,
-        v,
-        (
-          one,
-          e,
-          (
-            w,
-            c,
-            (
-              two,
-              f,
-              (same, none, answers, left),
-            ),
-          ),
-        ),
-      ),
+      (program, v, (w, c, (same, all, answers, left))),
     ). record {
       text = text;
       read = there;
@@ -89,6 +71,15 @@ compiled names old new status d =
           ∙ at_other other names.prog.now (program_bytes 2 program) before
           (bytes_differ other names.prog.now apart);
       sent = subst (λ (bytes : List ℕ). Known (λ x y. y ≡ x ++ bytes) old.sink.sent new.sink.sent)
-          (e ∙ f ∙ ap (λ w. (compiled_line program ++ []) ++ w) none
-          ∙ append-nil (compiled_line program ++ []) ∙ append-nil (compiled_line program)) sent;
+          (all ∙ append-nil (compiled_line program)) sent;
     })
+
+pub compile_proved : (names : CompileNames) → Proved (Compile names)
+compile_proved names = record {
+  gives = compile_gives names;
+  not_one = λ can. cc;
+  good = λ holds are good. compile_good names holds good;
+  spares = spares_by None (compile_plan names) (compile_takes names);
+  tells = zero_tells;
+  promised = λ old new status d. compiled names old new status d.delivers;
+}

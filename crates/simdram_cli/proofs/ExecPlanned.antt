@@ -1,6 +1,5 @@
 -- The facts of `exec`: its statuses, its files, its memory, and what one that is done promises.
 use Rattle.std.proofs.Common.{◌≡◌, ℕ, List, [], ◌∷◌, ◌++◌, Option, Some, None, refl, sym, ◌∙◌, ap, subst}
-use Rattle.std.proofs.Common.{append-nil}
 use Rattle.std.specs.Result.{result_ok}
 use Rattle.host_edge.specs.Views.{Files, Known}
 use Rattle.machine_model.specs.Report.{lines, total_line}
@@ -9,7 +8,6 @@ use Rattle.uprog_code.specs.Programs.{IsProgram}
 use Rattle.machine_model.specs.Opened.{Image}
 use Rattle.machine_model.specs.Routines.{Program}
 use Rattle.cli_model.specs.World.{World, with_file}
-use Rattle.cli_model.specs.Stands.{sent_by}
 use Rattle.uprog_bin.specs.Opened.{IsProgramFile}
 use Rattle.cli_model.specs.Plan.{Makes}
 use Rattle.simdram_cli.specs.Plans.{job_plan}
@@ -19,16 +17,15 @@ use Rattle.cli_model.proofs.Delivering.{IsDelivered, known_delivered}
 use Rattle.simdram_cli.specs.declared.words.Command.TheVariants.{Exec}
 use Rattle.simdram_cli.specs.declared.words.ExecNames.{ExecNames}
 use Rattle.simdram_cli.specs.declared.words.TheConstants.{PROG_MAX}
-use Rattle.simdram_cli.specs.Complete.{AreGood}
+use Rattle.simdram_cli.specs.Commands.{AreGood}
 use Rattle.simdram_cli.specs.Exec.{Executed, exec_names, exec_plan}
 use Rattle.simdram_cli.specs.Headline.{read_as}
 use Rattle.simdram_cli.specs.Inputs.{image_of, script_in}
-use Rattle.simdram_cli.specs.Job.{done_status, image_by, refused_by, said_in, tally_by, work_steps}
+use Rattle.simdram_cli.specs.Job.{done_status, image_by, refused_by, said_in, tally_by}
 use Rattle.simdram_cli.specs.Programs.{prog_in}
-use Rattle.simdram_cli.proofs.Completes.{IsOneOf}
 use Rattle.simdram_cli.proofs.Executing.{by_text, file_program, rows_stay, stays_inside}
 use Rattle.simdram_cli.proofs.JobPlans.{good_file, job_gives, job_good, job_takes, prog_refuses}
-use Rattle.simdram_cli.proofs.Planned.{GivesOwn, IsFailing}
+use Rattle.simdram_cli.proofs.Planned.{GivesOwn, IsFailing, IsOneOf, Proved, spares_by, zero_or_eight_tells}
 use Rattle.simdram_cli.proofs.Promised.{RowsDone, work_files, work_sent}
 use Rattle.simdram_cli.specs.Commands.{CanAnswer}
 use Rattle.cli_model.proofs.Files.{at_other, at_own, bytes_differ}
@@ -115,7 +112,6 @@ exec_promised names old new status d =
     (λ before after said sent (
       prog,
       prog_there,
-      prog_within,
       program,
       prog_is,
       (
@@ -124,17 +120,9 @@ exec_promised names old new status d =
         (
           text,
           script_there,
-          script_within,
           script,
           script_is,
-          (
-            bytes,
-            image_there,
-            image_within,
-            i,
-            image_is,
-            (more, said_is, (same, none, answers, left)),
-          ),
+          (bytes, image_there, i, image_is, (same, all, answers, left)),
         ),
       ),
     ).
@@ -147,6 +135,15 @@ exec_promised names old new status d =
     (record { image = left.0; plain = left.1; work = left.2 })
     (same ∙ work_files out program script i before)
     (subst (λ (w : List ℕ). Known (λ x y. y ≡ x ++ w) old.sink.sent new.sink.sent)
-    (said_is ∙ ap (λ w. sent_by (work_steps out program script i) ++ w) none
-    ∙ append-nil (sent_by (work_steps out program script i)) ∙ work_sent out program script i) sent)
+    (all ∙ work_sent out program script i) sent)
     answers)
+
+pub exec_proved : (names : ExecNames) → Proved (Exec names)
+exec_proved names = record {
+  gives = exec_gives names;
+  not_one = λ can. cc;
+  good = λ holds are good. exec_good names holds good;
+  spares = spares_by None (exec_plan names) (exec_takes names);
+  tells = zero_or_eight_tells;
+  promised = λ old new status d. exec_promised names old new status d.delivers;
+}

@@ -20,18 +20,18 @@ use Rattle.simdram_cli.specs.declared.words.Command.TheVariants.{Guard}
 use Rattle.simdram_cli.specs.declared.words.GuardNames.{GuardNames}
 use Rattle.simdram_cli.specs.declared.words.TheConstants.{FLIPS_MAX, IMAGE_MAX, OPS_MAX, SCRIPT_MAX}
 use Rattle.simdram_cli.specs.Commands.{CanAnswer}
-use Rattle.simdram_cli.specs.Complete.{AreGood, IsGood, IsScript, IsImageFile, IsFlipsFile}
+use Rattle.simdram_cli.specs.Commands.{AreGood}
+use Rattle.simdram_cli.specs.GoodFiles.{IsGood, IsScript, IsImageFile, IsFlipsFile}
 use Rattle.simdram_cli.specs.Ends.{IsCompiled}
 use Rattle.simdram_cli.specs.Flips.{flips_in, guarded_image_of, guarded_script_in, in_triples}
 use Rattle.simdram_cli.specs.Flips.{name_refusal, table_refusal, unless_some, with_short_names}
 use Rattle.simdram_cli.specs.Guard.{guard_image_plan, flips_plan, guard_job, guard_job_plan}
 use Rattle.simdram_cli.specs.Guard.{guard_plan, guard_work_plan, refused_of}
 use Rattle.simdram_cli.specs.Inputs.{image_of, ops_in, script_in}
-use Rattle.simdram_cli.proofs.Completes.{IsOneOf}
 use Rattle.simdram_cli.proofs.GuardSteps.{flips_are, opened_are, short_of, triples_of}
 use Rattle.simdram_cli.proofs.Guarding.{AreOthers}
 use Rattle.simdram_cli.proofs.JobPlans.{good_file, ops_refuses, status_so}
-use Rattle.simdram_cli.proofs.Planned.{GivesOwn, IsFailing}
+use Rattle.simdram_cli.proofs.Planned.{GivesOwn, IsFailing, IsOneOf}
 use Rattle.cli_model.proofs.Files.{at_other}
 
 pub guard_gives : (names : GuardNames) → GivesOwn (Guard names) (guard_plan names)

@@ -2,7 +2,7 @@
 use Rattle.std.proofs.Common.{◌≡◌, ℕ, ◌+◌, ◌<◌, Bool, true, false, List, [], ◌∷◌, ◌++◌, length, map}
 use Rattle.std.proofs.Common.{Option, Some, None, refl, sym, ◌∙◌, ap, subst, append-nil}
 use Rattle.std.proofs.Common.{append_assoc}
-use Rattle.std.specs.Prelude.{Result, Ok, Err, ◌≢◌}
+use Rattle.std.specs.Prelude.{Result, Ok, Err}
 use Rattle.std.specs.List.{AllByRecursion}
 use Rattle.std.specs.Result.{result_ok}
 use Rattle.dram_model.specs.declared.geometry.Geometry.{Geometry}
@@ -22,7 +22,7 @@ use Rattle.machine_model.specs.declared.Reply.{Reply}
 use Rattle.machine_model.specs.declared.Reply.TheVariants.{Done as ByDone, Refused}
 use Rattle.machine_model.specs.Script.{plus, replies}
 use Rattle.uprog_code.specs.declared.walker.Counts.{Counts}
-use Rattle.machine_model.specs.Routines.{Program, Routines, meaning_in, routines_in}
+use Rattle.machine_model.specs.Routines.{Routines, meaning_in, routines_in}
 use Rattle.machine_model.specs.Routines.{routines_of}
 use Rattle.machine_model.specs.Opened.{Image, opened, rows_in_banks}
 use Rattle.machine_model.specs.Report.{line, lines, total_line}
@@ -61,10 +61,13 @@ use Rattle.simdram_cli.specs.Inputs.{image_of, script_in, script_or_refusal}
 use Rattle.cli_model.proofs.Delivering.{IsDelivered, known_delivered}
 use Rattle.simdram_cli.specs.Guard.{guard_plan}
 use Rattle.simdram_cli.proofs.OpsPlans.{spells_at}
-use Rattle.simdram_cli.proofs.Guarding.{Apart}
+use Rattle.simdram_cli.proofs.Guarding.{Apart, apart}
 use Rattle.simdram_cli.proofs.NoWalks.{AllEnd, all_end, no_walks}
 use Rattle.simdram_cli.proofs.Promised.{kept_other}
 use Rattle.cli_model.proofs.Files.{at_other, at_own}
+use Rattle.simdram_cli.proofs.GuardPlanned.{guard_gives, guard_good, guard_takes}
+use Rattle.simdram_cli.proofs.Planned.{Proved, spares_by, zero_or_eight_tells}
+use Rattle.simdram_cli.specs.declared.words.Command.TheVariants.{Guard}
 
 -- what the steps send and store
 
@@ -287,39 +290,25 @@ guard_promised names old new status apart d =
     (λ before after said sent (
       ops,
       ops_there,
-      ops_within,
       u,
       ops_is,
       (
         program,
         v,
         (
-          one,
-          e,
+          w,
+          compiled,
           (
-            w,
-            compiled,
+            script_text,
+            script_there,
+            script,
+            script_is,
             (
-              script_text,
-              script_there,
-              script_within,
-              script,
-              script_is,
-              (
-                image_text,
-                image_there,
-                image_within,
-                i,
-                image_is,
-                (
-                  flips_text,
-                  flips_there,
-                  flips_within,
-                  flips,
-                  flips_is,
-                  (two, f, (three, h, (same, none, answers, left))),
-                ),
-              ),
+              image_text,
+              image_there,
+              i,
+              image_is,
+              (flips_text, flips_there, flips, flips_is, (same, all, answers, left)),
             ),
           ),
         ),
@@ -334,8 +323,7 @@ guard_promised names old new status apart d =
     let triple = triple_read (image_of image_text) i image_is in
     let files = same ∙ work_files out job stored in
     let told = subst (λ (w : List ℕ). Known (λ x y. y ≡ x ++ w) old.sink.sent new.sink.sent)
-    (e ∙ f ∙ h ∙ ap (λ w. sent_by (work_steps out job) ++ w) none
-    ∙ append-nil (sent_by (work_steps out job)) ∙ work_sent out job) sent in
+    (all ∙ work_sent out job) sent in
     let rows : GuardedRows out job after old new status = record {
       begun = left.done.begun;
       geometry = left.done.geometry;
@@ -388,3 +376,14 @@ guard_promised names old new status apart d =
       words = λ t implements. in_words t out job after old new status implements done;
       others = kept_other names.prog.now out bytes (image_at_last job) before after files;
     })
+
+pub guard_proved : (names : GuardNames) → Proved (Guard names)
+guard_proved names = record {
+  gives = guard_gives names;
+  not_one = λ can. cc;
+  good = λ holds are good. guard_good names holds (apart names are).others good;
+  spares = spares_by (Some names.prog.now) (guard_plan names) (guard_takes names);
+  tells = zero_or_eight_tells;
+  promised = λ old new status d.
+      guard_promised names old new status (apart names d.apart) d.delivers;
+}

@@ -70,7 +70,7 @@ use Rattle.cli_model.specs.Plan.{Answers}
 use Rattle.cli_model.specs.Runs.{Runs}
 use Rattle.cli_model.proofs.Running.{runs_answered, runs_stopped, runs_then}
 use Rattle.simdram_cli.specs.Guard.{GuardDoneOn, guard_work_plan}
-use Rattle.simdram_cli.specs.Plans.{said_of}
+use Rattle.simdram_cli.specs.Plans.{script_said}
 use Rattle.simdram_cli.specs.Job.{done_status, opened_counters, opening, reading}
 use Rattle.cli_model.specs.Reads.{LoadedAs, NotRead, ReadAs, refusal_of}
 use Rattle.simdram_cli.specs.Stops.{end_of, fault_reason, image_reason, reason_of}
@@ -526,11 +526,11 @@ pub guard_runs : (out : List ℕ) (job : GuardJob) (result : Result ℕ Stop) (o
     → IsImage job.image.geometry job.image.table job.image.rows → AllByRecursion IsPlain job.script
     → Goes (work_steps out job) (end_of result) old new
     → IfOk result (GuardDone job new.chip)
-    → Runs (guard_work_plan out job) old new (said_of result)
+    → Runs (guard_work_plan out job) old new (script_said result)
 guard_runs out job (Ok refused) old new is plain g d =
     let status = done_status (refused_of job) in
     let left = λ (chip : ChipView). GuardDoneOn job chip (refused_of job) in
-    runs_then (work_steps out job) (Answers status left) (said_of (Ok refused)) old new new g
+    runs_then (work_steps out job) (Answers status left) (script_said (Ok refused)) old new new g
     (subst (λ n. Runs (Answers status left) new new (Ok n)) (sym (ap done_status d.refused_is))
     (runs_answered status left new (record {
       image = is;

@@ -30,11 +30,11 @@ use Rattle.cli_model.proofs.Running.{runs_answered, runs_stopped, runs_then}
 use Rattle.simdram_cli.specs.declared.job.JobNames.{JobNames}
 use Rattle.simdram_cli.specs.declared.stop.Stop.{Stop}
 use Rattle.simdram_cli.specs.declared.words.TheConstants.{IMAGE_MAX, SCRIPT_MAX}
-use Rattle.simdram_cli.specs.Complete.{IsGood, IsImageFile, IsScript}
+use Rattle.simdram_cli.specs.GoodFiles.{IsGood, IsImageFile, IsScript}
 use Rattle.simdram_cli.specs.Inputs.{image_of, image_or_refusal, image_refusal, ops_in, script_in}
 use Rattle.simdram_cli.specs.Inputs.{script_or_refusal, unless_fault}
 use Rattle.simdram_cli.specs.Job.{done_status, refused_by, work_steps}
-use Rattle.simdram_cli.specs.Plans.{JobLeft, image_plan, job_plan, said_of, work_plan}
+use Rattle.simdram_cli.specs.Plans.{JobLeft, image_plan, job_plan, said_of, script_said, work_plan}
 use Rattle.simdram_cli.specs.Programs.{prog_in, program_or_refusal}
 use Rattle.simdram_cli.specs.Stops.{end_of, image_reason, reason_of}
 use Rattle.simdram_cli.specs.Works.{WorkDone}
@@ -45,11 +45,11 @@ pub work_runs : (out : List ℕ) (program : Program) (script : List Instruction)
     (result : Result ℕ Stop) (old new : World) → IsImage i.geometry i.table i.rows
     → AllByRecursion IsPlain script → Goes (work_steps out program script i) (end_of result) old new
     → IfOk result (WorkDone program script i new.chip)
-    → Runs (work_plan out program script i) old new (said_of result)
+    → Runs (work_plan out program script i) old new (script_said result)
 work_runs out program script i (Ok refused) old new is plain g w =
     let status = done_status (refused_by program script i) in
     let left = JobLeft program script i in
-    runs_then (work_steps out program script i) (Answers status left) (said_of (Ok refused)) old new
+    runs_then (work_steps out program script i) (Answers status left) (script_said (Ok refused)) old new
     new g (subst (λ n. Runs (Answers status left) new new (Ok n))
     (sym (ap done_status w.refused_is)) (runs_answered status left new (
       is,

@@ -14,19 +14,16 @@ pub mod MadeFiles
 pub mod Optimising
 pub mod Compiling
 pub mod Accounting
-pub mod Commanding
 pub mod Initial
 pub mod Promised
 pub mod Executing
 pub mod Promising
-pub mod Completing
 pub mod OpenedRows
 pub mod NoWalks
 pub mod Promises
 pub mod Stores
 pub mod Unique
 pub mod Soaking
-pub mod Keeping
 pub mod Scanning
 pub mod Stopping
 pub mod Tracing
@@ -35,7 +32,6 @@ pub mod Replaying
 pub mod Guarding
 pub mod GuardSteps
 pub mod GuardPromised
-pub mod Completes
 pub mod Answered
 pub mod WorkSteps
 pub mod JobPlans

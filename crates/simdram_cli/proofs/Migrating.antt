@@ -20,12 +20,11 @@ use Rattle.cli_model.proofs.Owed.{GoodFor, NotTen, TakesFirst}
 use Rattle.simdram_cli.specs.declared.words.Command.TheVariants.{Migrate}
 use Rattle.simdram_cli.specs.declared.words.MigrateNames.{MigrateNames}
 use Rattle.simdram_cli.specs.declared.words.TheConstants.{PROG_MAX}
-use Rattle.simdram_cli.specs.Complete.{IsProg}
+use Rattle.simdram_cli.specs.GoodFiles.{IsProg}
 use Rattle.simdram_cli.specs.Migrate.{Migrated, migrate_plan, migrated_line}
 use Rattle.simdram_cli.specs.Programs.{prog_in, program_or_refusal}
-use Rattle.simdram_cli.proofs.Completes.{IsOneOf}
 use Rattle.simdram_cli.proofs.JobPlans.{good_file, prog_refuses}
-use Rattle.simdram_cli.proofs.Planned.{GivesOwn, IsFailing}
+use Rattle.simdram_cli.proofs.Planned.{GivesOwn, IsFailing, IsOneOf, Proved, spares_by, zero_tells}
 
 -- the program of a program file
 pub prog_is : (text : List ℕ) → (f : IsProgramFile text) → prog_in text ≡ Ok f.programs
@@ -86,12 +85,6 @@ read_from file text program there is f =
       is = there ∙ ap (λ x. Some x) (f.spelled ∙ ap (program_bytes f.version) (sym own));
     }
 
--- one text was sent, before and after nothing
-pub one_sent : (said one two text : List ℕ) → said ≡ one → one ≡ (text ++ []) ++ two → two ≡ []
-    → said ≡ text
-one_sent said one two text e f none =
-    e ∙ f ∙ ap (λ w. (text ++ []) ++ w) none ∙ append-nil (text ++ []) ∙ append-nil text
-
 pub migrated : (names : MigrateNames) (old new : World) (status : ℕ)
     → IsDelivered (migrate_plan names) old new status
     → Known (λ before after. Migrated names before after old new) old.files.holds new.files.holds
@@ -101,22 +94,9 @@ migrated names old new status d =
     (λ before after said sent (
       text,
       there,
-      within,
       program,
       is,
-      (
-        u,
-        file,
-        (
-          one,
-          e,
-          (
-            two,
-            f,
-            (same, none, answers, left),
-          ),
-        ),
-      ),
+      (u, file, (same, all, answers, left)),
     ).
     let own = read_from (before names.old.now) text program there is file in
     record {
@@ -131,5 +111,15 @@ migrated names old new status d =
           ∙ at_other other names.new.now (program_bytes 2 program) before
           (bytes_differ other names.new.now apart);
       sent = subst (λ (bytes : List ℕ). Known (λ x y. y ≡ x ++ bytes) old.sink.sent new.sink.sent)
-          (one_sent said one two (migrated_line program) e f none) sent;
+          (all ∙ append-nil (migrated_line program)) sent;
     })
+
+pub migrate_proved : (names : MigrateNames) → Proved (Migrate names)
+migrate_proved names = record {
+  gives = migrate_gives names;
+  not_one = λ can. cc;
+  good = λ holds are good. migrate_good names holds good;
+  spares = spares_by None (migrate_plan names) (migrate_takes names);
+  tells = zero_tells;
+  promised = λ old new status d. migrated names old new status d.delivers;
+}

@@ -1,8 +1,8 @@
 -- The facts of `optimise`: its statuses, its files, its memory, and what one that is done leaves.
-use Rattle.std.proofs.Common.{◌≡◌, ℕ, ◌<◌, ◌≤◌, List, [], ◌∷◌, ◌++◌, Option, None, refl, ◌∙◌, ap, subst}
+use Rattle.std.proofs.Common.{◌≡◌, ℕ, List, [], ◌∷◌, ◌++◌, Option, None, refl, ◌∙◌, ap, subst}
+use Rattle.std.proofs.Common.{append-nil}
 use Rattle.std.proofs.Common.{inr, sym, Ok, Some}
 use Rattle.std.specs.Prelude.{map}
-use Rattle.bit_rows.specs.declared.TheConstants.{WIDTH_MAX}
 use Rattle.host_edge.specs.Views.{Files, Known}
 use Rattle.uprog_code.specs.Texts.{text_op}
 use Rattle.uprog_code.specs.Programs.{IsProgram}
@@ -24,16 +24,15 @@ use Rattle.cli_model.proofs.Owed.{GoodFor, NotTen, TakesFirst}
 use Rattle.simdram_cli.specs.declared.words.Command.TheVariants.{Optimise}
 use Rattle.simdram_cli.specs.declared.words.OptimiseNames.{OptimiseNames}
 use Rattle.simdram_cli.specs.declared.words.TheConstants.{OPS_MAX, PROG_MAX}
-use Rattle.simdram_cli.specs.Complete.{IsOps, IsProg}
+use Rattle.simdram_cli.specs.GoodFiles.{IsOps, IsProg}
 use Rattle.simdram_cli.specs.Inputs.{ops_in}
 use Rattle.simdram_cli.specs.Optimise.{IsMade, Optimised, made_plan, optimise_plan, room_for}
 use Rattle.simdram_cli.specs.Programs.{prog_in, program_or_refusal}
-use Rattle.simdram_cli.specs.Words.{HasNumbers}
-use Rattle.simdram_cli.proofs.Completes.{IsOneOf}
+use Rattle.simdram_cli.specs.Commands.{HasNumbers}
 use Rattle.simdram_cli.proofs.JobPlans.{good_file, ops_refuses, prog_refuses}
-use Rattle.simdram_cli.proofs.Migrating.{one_sent, read_from}
+use Rattle.simdram_cli.proofs.Migrating.{read_from}
 use Rattle.simdram_cli.proofs.OpsPlans.{spells_at}
-use Rattle.simdram_cli.proofs.Planned.{GivesOwn, IsFailing}
+use Rattle.simdram_cli.proofs.Planned.{GivesOwn, IsFailing, IsOneOf, Proved, spares_by, zero_tells}
 
 pub optimise_gives : (names : OptimiseNames) → GivesOwn (Optimise names) (optimise_plan names)
 optimise_gives names = (
@@ -93,33 +92,9 @@ optimised names numbers old new status d =
     (λ before after said sent (
       ops_text,
       ops_there,
-      ops_within,
       u,
       ops_is,
-      (
-        prog_text,
-        prog_there,
-        prog_within,
-        program,
-        prog_is,
-        (
-          one,
-          e,
-          (
-            made,
-            is,
-            (
-              two,
-              f,
-              (
-                three,
-                g,
-                (same, none, answers, left),
-              ),
-            ),
-          ),
-        ),
-      ),
+      (prog_text, prog_there, program, prog_is, (made, is, (same, all, answers, left))),
     ).
     let own = read_from (before names.prog.now) prog_text program prog_there prog_is is.file in
     let ops = map text_op made.ops in
@@ -153,6 +128,15 @@ optimised names numbers old new status d =
           ∙ at_other other names.new.now (program_bytes 2 made.program) before
           (bytes_differ other names.new.now apart);
       sent = subst (λ (bytes : List ℕ). Known (λ x y. y ≡ x ++ bytes) old.sink.sent new.sink.sent)
-          (one_sent said two three (report names.width made.program made.outcomes) (e ∙ f) g none)
-          sent;
+          (all ∙ append-nil (report names.width made.program made.outcomes)) sent;
     })
+
+pub optimise_proved : (names : OptimiseNames) → Proved (Optimise names)
+optimise_proved names = record {
+  gives = optimise_gives names;
+  not_one = λ can. cc;
+  good = λ holds are good. optimise_good names holds good;
+  spares = spares_by None (optimise_plan names) (optimise_takes names);
+  tells = zero_tells;
+  promised = λ old new status d. optimised names d.numbers old new status d.delivers;
+}

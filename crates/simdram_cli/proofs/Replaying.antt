@@ -50,7 +50,8 @@ use Rattle.simdram_cli.specs.declared.words.Command.TheVariants.{Replay}
 use Rattle.simdram_cli.specs.declared.words.ReplayNames.{ReplayNames}
 use Rattle.simdram_cli.specs.declared.words.TheConstants.{IMAGE_MAX, TRACE_MAX}
 use Rattle.simdram_cli.specs.declared.stop.Stop.{Stop}
-use Rattle.simdram_cli.specs.Complete.{AreGood, IsImageFile}
+use Rattle.simdram_cli.specs.Commands.{AreGood}
+use Rattle.simdram_cli.specs.GoodFiles.{IsImageFile}
 use Rattle.simdram_cli.specs.Headline.{read_as}
 use Rattle.simdram_cli.specs.Inputs.{image_found, image_of, image_or_refusal, image_refusal}
 use Rattle.simdram_cli.specs.Job.{opened_counters, opening, reading}
@@ -62,9 +63,8 @@ use Rattle.simdram_cli.specs.Stops.{image_reason, reason_of, trace_reason}
 use Rattle.simdram_cli.specs.Traces.{geometry_differs, if_same, image_for, same_geometry, trace_in}
 use Rattle.simdram_cli.specs.Traces.{trace_or_refusal, trace_refusal}
 use Rattle.simdram_cli.specs.Works.{OpenedOn}
-use Rattle.simdram_cli.proofs.Completes.{IsOneOf}
 use Rattle.simdram_cli.proofs.JobPlans.{good_file}
-use Rattle.simdram_cli.proofs.Planned.{GivesOwn, IsFailing}
+use Rattle.simdram_cli.proofs.Planned.{GivesOwn, IsFailing, IsOneOf, Proved, spares_by, zero_tells}
 use Rattle.simdram_cli.proofs.Sending.{left_by}
 use Rattle.simdram_cli.proofs.Stores.{sent, use_broke, used}
 use Rattle.simdram_cli.proofs.Tallies.{both, log_is}
@@ -470,21 +470,9 @@ replayed_by names old new status d =
     (λ before after said sent (
       text,
       trace_there,
-      trace_within,
       t,
       trace_is,
-      (
-        u,
-        legal,
-        (
-          own,
-          image_there,
-          image_within,
-          i,
-          image_is,
-          (more, said_is, (stored, none, answers, events)),
-        ),
-      ),
+      (u, legal, (own, image_there, i, image_is, (stored, all, answers, events))),
     ).
     let taken = taken_by t.geometry own (image_of own) i refl image_is in
     let line = replay_line (replay_counters t) in
@@ -502,6 +490,15 @@ replayed_by names old new status d =
           ∙ at_other other names.out.now (image_replayed t i) before
           (bytes_differ other names.out.now apart);
       sent = subst (λ (bytes : List ℕ). Known (λ x y. y ≡ x ++ bytes) old.sink.sent new.sink.sent)
-          (said_is ∙ ap (λ w. (line ++ []) ++ w) none ∙ append-nil (line ++ []) ∙ append-nil line
-          ∙ ap replay_line (sym events.counters)) sent;
+          (all ∙ append-nil line ∙ ap replay_line (sym events.counters)) sent;
     })
+
+pub replay_proved : (names : ReplayNames) → Proved (Replay names)
+replay_proved names = record {
+  gives = replay_gives names;
+  not_one = λ can. cc;
+  good = λ holds are good. replay_good names holds good;
+  spares = spares_by None (replay_plan names) (replay_takes names);
+  tells = zero_tells;
+  promised = λ old new status d. replayed_by names old new status d.delivers;
+}

@@ -1,6 +1,6 @@
 -- The facts of `run`: its statuses, its files, its memory, and what one that is done promises.
 use Rattle.std.proofs.Common.{◌≡◌, ℕ, List, [], ◌∷◌, ◌++◌, map, Option, Some, refl, sym, ◌∙◌, ap, subst}
-use Rattle.std.proofs.Common.{append-nil, inl}
+use Rattle.std.proofs.Common.{inl}
 use Rattle.std.specs.Result.{result_ok}
 use Rattle.host_edge.specs.Views.{Files, Known}
 use Rattle.machine_model.specs.Routines.{Program}
@@ -8,7 +8,6 @@ use Rattle.uprog_bin.specs.Spelling.{program_bytes}
 use Rattle.uprog_code.specs.Texts.{text_op}
 use Rattle.cli_model.specs.World.{World, with_file}
 use Rattle.cli_model.specs.Steps.{Store, Take}
-use Rattle.cli_model.specs.Stands.{sent_by}
 use Rattle.cli_model.proofs.Owed.{GoodFor, NotTen, TakesFirst, files_then}
 use Rattle.cli_model.specs.Faultless.{file_in}
 use Rattle.cli_model.specs.Plan.{Makes, Then}
@@ -17,23 +16,22 @@ use Rattle.simdram_cli.specs.declared.words.Command.TheVariants.{Run}
 use Rattle.simdram_cli.specs.declared.words.RunNames.{RunNames}
 use Rattle.simdram_cli.specs.declared.words.TheConstants.{IMAGE_MAX, OPS_MAX, SCRIPT_MAX}
 use Rattle.simdram_cli.specs.Commands.{CanAnswer}
-use Rattle.simdram_cli.specs.Complete.{AreGood}
+use Rattle.simdram_cli.specs.Commands.{AreGood}
 use Rattle.simdram_cli.specs.Ends.{IsCompiled}
 use Rattle.simdram_cli.specs.Headline.{Headline, read_as}
 use Rattle.simdram_cli.specs.Inputs.{image_of, ops_in, script_in}
-use Rattle.simdram_cli.specs.Job.{image_by, refused_by, work_steps}
+use Rattle.simdram_cli.specs.Job.{image_by, refused_by}
 use Rattle.simdram_cli.specs.Plans.{job_plan}
 use Rattle.simdram_cli.specs.Run.{job_names, run_plan}
-use Rattle.simdram_cli.proofs.Completes.{IsOneOf}
 use Rattle.simdram_cli.proofs.OpsPlans.{spells_at}
 use Rattle.simdram_cli.proofs.GuardPlanned.{moved}
 use Rattle.simdram_cli.proofs.JobPlans.{good_file, job_gives, job_good, job_takes, ops_refuses}
-use Rattle.simdram_cli.proofs.Planned.{GivesOwn, IsFailing}
+use Rattle.simdram_cli.proofs.Planned.{GivesOwn, IsFailing, IsOneOf, Proved, spares_by, zero_or_eight_tells}
 use Rattle.simdram_cli.proofs.Promised.{RowsDone, is_done, kept_other}
 use Rattle.simdram_cli.proofs.Promised.{replies_exact, work_files, work_sent}
 use Rattle.simdram_cli.proofs.Promises.{commands_counted, job_of, objects_right, report_is}
 use Rattle.simdram_cli.proofs.Promises.{rows_untouched}
-use Rattle.simdram_cli.proofs.Running.{Apart}
+use Rattle.simdram_cli.proofs.Running.{Apart, apart}
 use Rattle.cli_model.proofs.Files.{at_other, at_own}
 
 pub run_gives : (names : RunNames) → GivesOwn (Run names) (run_plan names)
@@ -93,33 +91,20 @@ run_promised names old new status apart d =
     (λ before after said sent (
       ops,
       ops_there,
-      ops_within,
       u,
       ops_is,
       (
         program,
         v,
         (
-          one,
-          e,
+          w,
+          compiled,
           (
-            w,
-            compiled,
-            (
-              script_text,
-              script_there,
-              script_within,
-              script,
-              script_is,
-              (
-                image_text,
-                image_there,
-                image_within,
-                i,
-                image_is,
-                (two, f, (same, none, answers, left)),
-              ),
-            ),
+            script_text,
+            script_there,
+            script,
+            script_is,
+            (image_text, image_there, i, image_is, (same, all, answers, left)),
           ),
         ),
       ),
@@ -134,9 +119,7 @@ run_promised names old new status apart d =
     let done = is_done t script i program new.chip refused rows compiled.implements in
     let files = same ∙ work_files out program script i stored in
     let told = subst (λ (w : List ℕ). Known (λ x y. y ≡ x ++ w) old.sink.sent new.sink.sent)
-    (e ∙ f ∙ ap (λ w. sent_by (work_steps out program script i) ++ w) none
-    ∙ append-nil (sent_by (work_steps out program script i)) ∙ work_sent out program script i) sent
-    in
+    (all ∙ work_sent out program script i) sent in
     record {
       job = job_of t script i program;
       of_files = record {
@@ -168,3 +151,14 @@ run_promised names old new status apart d =
       replies_exact = replies_exact t script i program new.chip refused status done answers;
       others = kept_other names.prog.now out bytes (image_by program script i) before after files;
     })
+
+pub run_proved : (names : RunNames) → Proved (Run names)
+run_proved names = record {
+  gives = run_gives names;
+  not_one = λ can. cc;
+  good = λ holds are good. run_good names holds (apart names are) good;
+  spares = spares_by (Some names.prog.now) (run_plan names) (run_takes names);
+  tells = zero_or_eight_tells;
+  promised = λ old new status d.
+      run_promised names old new status (apart names d.apart) d.delivers;
+}

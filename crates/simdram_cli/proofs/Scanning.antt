@@ -75,10 +75,11 @@ use Rattle.simdram_cli.specs.declared.words.TheConstants.{IMAGE_MAX, QUERY_MAX}
 use Rattle.simdram_cli.specs.declared.stop.Stop.{Stop}
 use Rattle.simdram_cli.specs.declared.stop.Stop.TheVariants as stop
 use Rattle.simdram_cli.specs.Commands.{CanAnswer}
-use Rattle.simdram_cli.specs.Complete.{AreGood}
+use Rattle.simdram_cli.specs.Commands.{AreGood}
 use Rattle.simdram_cli.specs.Headline.{read_as}
 use Rattle.simdram_cli.specs.Inputs.{image_found, image_of, image_or_refusal}
 use Rattle.simdram_cli.specs.Job.{opened_counters, opening}
+use Rattle.simdram_cli.specs.declared.completion.Completion.{Completion}
 use Rattle.simdram_cli.specs.Plans.{said_of}
 use Rattle.simdram_cli.specs.Queries.{Asks, AsksIn, query_in, query_refusal, scan_refusal}
 use Rattle.simdram_cli.specs.Queries.{unless_broken}
@@ -89,10 +90,8 @@ use Rattle.simdram_cli.specs.Scan.{query_use, scan_image_plan, scan_plan, use_st
 use Rattle.simdram_cli.proofs.Sending.{left_by}
 use Rattle.simdram_cli.specs.Stops.{reason_of}
 use Rattle.simdram_cli.specs.Works.{OpenedOn}
-use Rattle.simdram_cli.proofs.Completes.{IsOneOf}
 use Rattle.simdram_cli.proofs.JobPlans.{good_file, image_refuses}
-use Rattle.simdram_cli.proofs.Keeping.{StoreNone, StoresNone}
-use Rattle.simdram_cli.proofs.Planned.{GivesOwn, IsFailing}
+use Rattle.simdram_cli.proofs.Planned.{GivesOwn, IsFailing, IsOneOf, Proved, spares_by, zero_tells}
 use Rattle.simdram_cli.proofs.Progress.{Holds}
 use Rattle.simdram_cli.proofs.Stores.{nothing_read, use_broke, used}
 use Rattle.simdram_cli.proofs.Tallies.{both}
@@ -510,7 +509,7 @@ took steps rest result old at new (inl (mid, (d, g))) more =
 took steps rest result old at new (inr f) more = absurd f
 
 pub query_asked : (program : Program) (q : Query) (i : Image) (said : ScanReply)
-    (result : Result ℕ Stop) (files : FolderView) (sink after : SinkView) (before chip : ChipView)
+    (result : Result Completion Stop) (files : FolderView) (sink after : SinkView) (before chip : ChipView)
     → DoesScans program
     → AnswerGoes program q i (Ok said) (world files sink before) (world files sink chip)
     → Runs (answer_plan (λ view. Unit {0}) (answer_of said)) (world files sink chip)
@@ -610,51 +609,29 @@ scan_good names holds good =
       ),
     ))
 
--- no file changes
-
-use_none : (on : Option ChipUse) (fault : Option (ScanWhy × ℕ)) → StoreNone (use_steps on fault)
-use_none on None = (tt, tt)
-use_none on (Some fault) = tt
-
-answer_none : (left : ChipView → Type 0) (a : Answer) → StoresNone (answer_plan left a)
-answer_none left (Found found of counts) = ((tt, tt), tt)
-answer_none left (NotFound why k) = tt
-
-pub scan_none : (names : ScanNames) → StoresNone (scan_plan names)
-scan_none names = λ text u q own i. (
-  (tt, tt),
-  λ program. (
-    (tt, use_none (query_use program q i) (checked i.table (nodes_of q))),
-    answer_none (ScanLeft program q i) (answer_on program q i),
-  ),
-)
-
 -- what it promises
 
 -- what is delivered where it is done: the elements were counted, and their line was sent
-record Counted (left : Type 0) (a : Answer) (said : List ℕ) : Type 0 where
+record Counted (left : Type 0) (a : Answer) (sent said : List ℕ) : Type 0 where
   found : ℕ
   of : ℕ
   counts : Counts
   is : a ≡ Found found of counts
-  sends : said ≡ count_line found of counts
+  sends : said ≡ sent ++ count_line found of counts
   leaves : left
 
-counted_by : (left : ChipView → Type 0) (a : Answer) (before after : Files) (said : List ℕ)
-    (chip : ChipView) (status : ℕ) → Delivers (answer_plan left a) before after said chip status
-    → Counted (left chip) a said
-counted_by left (Found found of counts) before after said chip status
-    (more, e, (same, none, own, l)) = record {
-      found = found;
-      of = of;
-      counts = counts;
-      is = refl;
-      sends = e ∙ ap (λ w. (count_line found of counts ++ []) ++ w) none
-          ∙ append-nil (count_line found of counts ++ [])
-          ∙ append-nil (count_line found of counts);
-      leaves = l;
-    }
-counted_by left (NotFound why k) before after said chip status d = absurd d
+counted_by : (left : ChipView → Type 0) (a : Answer) (before after : Files) (sent said : List ℕ)
+    (chip : ChipView) (status : ℕ) → Delivers (answer_plan left a) before after sent said chip status
+    → Counted (left chip) a sent said
+counted_by left (Found found of counts) before after sent said chip status (same, all, own, l) = record {
+  found = found;
+  of = of;
+  counts = counts;
+  is = refl;
+  sends = all ∙ ap (λ w. sent ++ w) (append-nil (count_line found of counts));
+  leaves = l;
+}
+counted_by left (NotFound why k) before after sent said chip status d = absurd d
 
 use_quiet : (on : Option ChipUse) (fault : Option (ScanWhy × ℕ))
     → sent_by (use_steps on fault) ≡ []
@@ -673,33 +650,23 @@ scanned names old new status files d =
     (λ before after said sent (
       text,
       query_there,
-      query_within,
       u,
       query_is,
-      (
-        q,
-        asks,
-        (
-          own,
-          image_there,
-          image_within,
-          i,
-          image_is,
-          (one, e, (program, does, (two, f, answer))),
-        ),
-      ),
+      (q, asks, (own, image_there, i, image_is, (program, does, answer))),
     ).
     let left = ScanLeft program q i in
-    let c = counted_by left (answer_on program q i) _ after two new.chip status answer in
+    let sends = sent_by (use_steps (query_use program q i) (checked i.table (nodes_of q))) in
+    let c = counted_by left (answer_on program q i) _ after sends said new.chip status answer in
     let o = found_on program q i c.found c.of c.counts c.is in
     let line : count_line c.found c.of c.counts ≡ count_line (number_found q i)
     (query_count i.table q) (scan_counts program q i) =
     ap (λ n. count_line n c.of c.counts) (o.found_is ∙ number_is q i)
     ∙ ap (λ n. count_line (number_found q i) n c.counts) o.of_is
     ∙ ap (count_line (number_found q i) (query_count i.table q)) o.counts_are in
-    let sends : said ≡ count_line (number_found q i) (query_count i.table q)
+    let all : said ≡ count_line (number_found q i) (query_count i.table q)
     (scan_counts program q i) =
-    e ∙ f ∙ ap (λ w. w ++ two) (use_quiet (query_use program q i) (checked i.table (nodes_of q))) ∙ c.sends ∙ line in
+    c.sends ∙ ap (λ w. w ++ count_line c.found c.of c.counts)
+    (use_quiet (query_use program q i) (checked i.table (nodes_of q))) ∙ line in
     record {
       query = q;
       image = i;
@@ -711,9 +678,20 @@ scanned names old new status files d =
       room = o.room;
       work = c.leaves.worked c.found c.of c.counts c.is;
       sent = subst (λ (bytes : List ℕ). Known (λ x y. y ≡ x ++ bytes) old.sink.sent new.sink.sent)
-          sends sent;
+          all sent;
       counters = c.leaves.counted c.found c.of c.counts c.is
           ∙ ap (λ n. scan_counters i.geometry n c.counts) o.of_is
           ∙ ap (scan_counters i.geometry (query_count i.table q)) o.counts_are;
       files = files;
     })
+
+pub scan_proved : (names : ScanNames) → Proved (Scan names)
+scan_proved names = record {
+  gives = scan_gives names;
+  not_one = λ can. cc;
+  good = λ holds are good. scan_good names holds good;
+  spares = λ old new status ends.
+      spares_by None (scan_plan names) (scan_takes names) old new status ends.0;
+  tells = zero_tells;
+  promised = λ old new status d. scanned names old new status d.ends.1 d.delivers;
+}

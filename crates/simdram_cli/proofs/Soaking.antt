@@ -26,8 +26,7 @@ use Rattle.soak_job.specs.declared.job.SoakError.TheVariants as no
 use Rattle.simdram_cli.specs.declared.words.Command.TheVariants.{Soak}
 use Rattle.simdram_cli.specs.Commands.{CanAnswer}
 use Rattle.simdram_cli.specs.Soak.{SoakEnds, Soaked, soak_plan}
-use Rattle.simdram_cli.proofs.Completes.{IsOneOf}
-use Rattle.simdram_cli.proofs.Planned.{GivesOwn, IsFailing, failing_apart}
+use Rattle.simdram_cli.proofs.Planned.{GivesOwn, IsFailing, IsOneOf, Proved, failing_apart, zero_tells}
 
 -- what the job of a seed says, as the command
 abbrev pub said_by : Result (Unit {0}) SoakError → Result ℕ Reason
@@ -112,4 +111,14 @@ soaked seed old new status is (e, files) =
     by_cases : IsAnswered (CanAnswer (Soak seed)) (soak_plan seed) e.way e.ends.ended status
         ⊎ IsFailing (Soak seed) status → Soaked seed old new
     by_cases (inl a) = at_end e.way e.stood e.ends.ended a.all e.ends.so e.last e.left
-    by_cases (inr f) = absurd (failing_apart (Soak seed) status (inl is) f)
+    by_cases (inr f) = absurd (failing_apart (Soak seed) status (zero_tells status is) f)
+
+pub soak_proved : (seed : ℕ) → Proved (Soak seed)
+soak_proved seed = record {
+  gives = soak_gives seed;
+  not_one = λ can. cc;
+  good = λ holds are good. soak_good seed holds;
+  spares = λ old new status ends ten. ends.1;
+  tells = zero_tells;
+  promised = λ old new status d. soaked seed old new status d.told d.ends;
+}

@@ -64,55 +64,6 @@ pub sent : (R : List ℕ → List ℕ → Type 0) (files : FolderView) (old new 
     → Sent R (world files old chip) (world files new chip)
 sent R files old new chip t l = record { files = refl; sent = t; faults = l; chip = refl }
 
-pub finish_unstored : (on : Option ChipUse) (name bytes total : List ℕ) (f g : FolderView) (s : SinkView) (a b : ChipView)
-    → b.faults ≡ a.faults → Unstored name (world f s b) (world g s b)
-    → Goes (Use on ∷ Store name bytes ∷ Put total ∷ []) (Stopped (CannotWrite name)) (world f s a)
-    (world g s b)
-finish_unstored on name bytes total f g s a b e u = inl (world f s b, (used f s a b e, inr (refl, u)))
-
-pub finish_unput : (on : Option ChipUse) (name bytes total : List ℕ) (f g : FolderView) (s t : SinkView) (a b : ChipView)
-    → b.faults ≡ a.faults
-    → Stored name bytes (world f s b) (world g s b) → Known (AppendsPart total) s.sent t.sent
-    → s.faults ≤ t.faults → Rose s.faults t.faults
-    → Goes (Use on ∷ Store name bytes ∷ Put total ∷ []) (Stopped PutFailed) (world f s a) (world g t b)
-finish_unput on name bytes total f g s t a b e u p n r =
-    inl (
-      world f s b,
-      (
-        used f s a b e,
-        inl (
-          world g s b,
-          (u, inr (refl, sent (AppendsPart total) g s t b p n, r)),
-        ),
-      ),
-    )
-
-pub finish_done : (on : Option ChipUse) (name bytes total : List ℕ) (f g : FolderView) (s t : SinkView) (a b : ChipView)
-    → b.faults ≡ a.faults
-    → Stored name bytes (world f s b) (world g s b)
-    → Known (λ before after. after ≡ before ++ total) s.sent t.sent → s.faults ≤ t.faults
-    → Goes (Use on ∷ Store name bytes ∷ Put total ∷ []) Done (world f s a) (world g t b)
-finish_done on name bytes total f g s t a b e u p n =
-    inl (
-      world f s b,
-      (
-        used f s a b e,
-        inl (
-          world g s b,
-          (
-            u,
-            inl (
-              world g t b,
-              (
-                sent (λ before after. after ≡ before ++ total) g s t b p n,
-                refl,
-              ),
-            ),
-          ),
-        ),
-      ),
-    )
-
 pub nothing_read : (w : World) → ReadsOnly w w
 nothing_read w = record {
   files = refl;

@@ -11,7 +11,7 @@ use Rattle.dram_model.specs.declared.dram.Counters.{Counters}
 use Rattle.dram_model.specs.Chip.{Event, Log, LogIs, after, all_counted, Grew}
 use Rattle.dram_model.proofs.EventLaws.{LogIs-more}
 use Rattle.dram_model.specs.Chip.Event.{Write}
-use Rattle.dram_model.specs.View.{ChipView, DidRead, with_reads, Kept}
+use Rattle.dram_model.specs.View.{with_reads}
 use Rattle.dram_model.proofs.EventLaws.{all_counted-append}
 use Rattle.dram_model.specs.declared.geometry.Geometry.{Geometry}
 use Rattle.dram_model.specs.Geometry.{is_geometry, is_between, fits_size}
@@ -22,10 +22,8 @@ use Rattle.machine_model.specs.Routines.{Program, routines_in}
 use Rattle.machine_model.specs.Opened.{Image, row_writes, opened}
 use Rattle.machine_model.specs.Pieces.{script_events}
 use Rattle.machine_model.specs.Script.{replies, rows_printed, sum_done, sum_of}
-use Rattle.machine_model.proofs.Pieces.{counted_by_replies, events_are_steps}
-use Rattle.sim_machine.specs.Steps.{DidAndRead}
-use Rattle.simdram_cli.specs.Job.{opened_counters, tally_by, refused_by}
-use Rattle.simdram_cli.specs.Works.{OpenedOn, WorkDone}
+use Rattle.machine_model.proofs.Pieces.{counted_by_replies}
+use Rattle.simdram_cli.specs.Job.{opened_counters, tally_by}
 use Rattle.simdram_cli.proofs.Progress.{Holds}
 
 pub both : (x y : Bool) → (x && y) ≡ true → (x ≡ true) × (y ≡ true)
@@ -102,27 +100,3 @@ some_words g e =
     (is_between 1 1024 g.words) one.0 in
     let three = both (nat_le 1 g.words) (nat_le g.words 1024) two.1 in
     leb-true 1 g.words three.0
-
--- a script that was done to its end
-pub work_done : (program : Program) (script : List Instruction) (i : Image) (a b c : ChipView)
-    (refused : ℕ) → Holds i.geometry i.table → OpenedOn i a
-    → DidAndRead (script_events i.geometry (routines_in program) i.table script)
-    (sum_done rows_printed i.geometry (routines_in program) i.table script) a b
-    → DidRead (i.geometry.banks * i.geometry.rows) b c → Kept a c
-    → refused ≡ refused_by program script i → WorkDone program script i c refused
-work_done program script i a b c refused holds start did read kept count =
-    let o = routines_in program in
-    let events = script_events i.geometry o i.table script in
-    let printed = sum_done rows_printed i.geometry o i.table script in
-    record {
-      begun = kept.begun ∙ start.begun;
-      geometry = kept.geometry ∙ start.geometry;
-      banks = read.banks ∙ did.banks ∙ ap (after events) start.banks
-          ∙ events_are_steps i.geometry o Ahead i.table script (opened i) holds.words holds.fits;
-      counters = read.counters
-          ∙ ap (with_reads (i.geometry.banks * i.geometry.rows)) (did.counters
-          ∙ ap (λ k. with_reads printed (all_counted events k)) start.counters)
-          ∙ tally_is program script i holds;
-      log = log_is (row_writes i) a.log b.log c.log events start.log did.log read.log;
-      refused_is = count;
-    }

@@ -16,17 +16,16 @@ use Rattle.simdram_cli.specs.declared.words.Command.TheVariants.{Trace}
 use Rattle.simdram_cli.specs.declared.words.TraceNames.{TraceNames}
 use Rattle.simdram_cli.specs.declared.words.TheConstants.{IMAGE_MAX, PROG_MAX, SCRIPT_MAX}
 use Rattle.simdram_cli.specs.Commands.{CanAnswer}
-use Rattle.simdram_cli.specs.Complete.{AreGood}
+use Rattle.simdram_cli.specs.Commands.{AreGood}
 use Rattle.simdram_cli.specs.Inputs.{image_of, script_in}
 use Rattle.simdram_cli.specs.Job.{image_by, reading_by, refused_by, script_steps}
 use Rattle.simdram_cli.specs.Programs.{prog_in}
 use Rattle.simdram_cli.specs.Tracing.{fits, full_plan, recorded_steps, store_steps, total_steps}
 use Rattle.simdram_cli.specs.Tracing.{trace_image_plan, trace_job_plan, trace_plan, traced_plan}
 use Rattle.simdram_cli.specs.Tracing.{traced_steps}
-use Rattle.simdram_cli.proofs.Completes.{IsOneOf}
 use Rattle.simdram_cli.proofs.JobPlans.{good_file, image_refuses, prog_refuses, script_refuses}
 use Rattle.simdram_cli.proofs.JobPlans.{status_so}
-use Rattle.simdram_cli.proofs.Planned.{GivesOwn, IsFailing}
+use Rattle.simdram_cli.proofs.Planned.{GivesOwn, IsFailing, IsOneOf}
 use Rattle.simdram_cli.proofs.WorkSteps.{pieces_of}
 
 store_of : (P : ℕ → Type 0) (all : Bool) (name : List ℕ) (program : Program)

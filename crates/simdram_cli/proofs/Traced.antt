@@ -1,5 +1,6 @@
 -- What a recorded execution promises.
 use Rattle.std.proofs.Common.{◌≡◌, ℕ, ◌*◌, ◌<◌, ◌≤◌, ◌^◌, Bool, true, false, leb, List}
+use Rattle.std.proofs.Common.{None}
 use Rattle.std.proofs.Common.{[], ◌∷◌, ◌++◌, Some, refl, sym, ◌∙◌, ap, subst}
 use Rattle.std.proofs.Common.{arith, append-nil, length, length-append}
 use Rattle.std.specs.Prelude.{Result, Ok, Err, ◌≢◌, bytes_eq}
@@ -52,6 +53,9 @@ use Rattle.simdram_cli.proofs.Promised.{RowsDone, pieces_files}
 use Rattle.simdram_cli.proofs.Running.{four_differ, other_way}
 use Rattle.simdram_cli.proofs.Tallies.{both}
 use Rattle.cli_model.proofs.Files.{at_other, at_own, bytes_differ}
+use Rattle.simdram_cli.proofs.Planned.{Proved, spares_by, zero_or_eight_tells}
+use Rattle.simdram_cli.proofs.TracePlanned.{trace_gives, trace_good, trace_takes}
+use Rattle.simdram_cli.specs.declared.words.Command.TheVariants.{Trace as TraceOn}
 
 -- what its steps come to in files and bytes
 recorded_files : (names : TraceNames) (program : Program) (script : List Instruction) (i : Image)
@@ -165,27 +169,27 @@ other_kept names trace bytes before other p q =
     ∙ at_other other names.out.now bytes before (bytes_differ other names.out.now p)
 
 -- what is delivered where it is done: all events fit, and nothing more is stored or sent
-record AllFit (all : Bool) (left : Type 0) (before after : Files) (said : List ℕ)
+record AllFit (all_fit : Bool) (left : Type 0) (before after : Files) (sent said : List ℕ)
     (done status : ℕ) : Type 0 where
-  fit : all ≡ true
+  fit : all_fit ≡ true
   files : after ≡ before
-  none : said ≡ []
+  all : said ≡ sent
   answers : status ≡ done
   leaves : left
 
-all_fits : (all : Bool) (program : Program) (script : List Instruction) (i : Image)
-    (before after : Files) (said : List ℕ) (chip : ChipView) (status : ℕ)
-    → Delivers (full_plan all program script i) before after said chip status
-    → AllFit all (TraceLeft program script i chip) before after said
+all_fits : (fit : Bool) (program : Program) (script : List Instruction) (i : Image)
+    (before after : Files) (sent said : List ℕ) (chip : ChipView) (status : ℕ)
+    → Delivers (full_plan fit program script i) before after sent said chip status
+    → AllFit fit (TraceLeft program script i chip) before after sent said
     (done_status (refused_by program script i)) status
-all_fits true program script i before after said chip status (same, none, answers, left) = record {
+all_fits true program script i before after sent said chip status (same, all, answers, left) = record {
   fit = refl;
   files = same;
-  none = none;
+  all = all;
   answers = answers;
   leaves = left;
 }
-all_fits false program script i before after said chip status d = absurd d
+all_fits false program script i before after sent said chip status d = absurd d
 
 -- A recorded execution that was done keeps its promises
 pub traced : (names : TraceNames) (old new : World) (status : ℕ) → traced_apart names ≡ true
@@ -198,32 +202,17 @@ traced names old new status apart d =
     (λ before after said sent (
       prog,
       prog_there,
-      prog_within,
       program,
       prog_is,
       (
         u,
         is_file,
-        (
-          text,
-          script_there,
-          script_within,
-          script,
-          script_is,
-          (
-            bytes,
-            image_there,
-            image_within,
-            i,
-            image_is,
-            (more, said_is, end),
-          ),
-        ),
+        (text, script_there, script, script_is, (bytes, image_there, i, image_is, end)),
       ),
     ).
     let steps = traced_steps names program script i in
-    let a = all_fits (fits program script i) program script i (files_after steps before) after more
-    new.chip status end in
+    let a = all_fits (fits program script i) program script i (files_after steps before) after
+    (sent_by steps) said new.chip status end in
     let legal = file_program prog program is_file prog_is in
     let rows : RowsDone script i program (unlogged new.chip) (refused_by program script i) =
     record { image = a.leaves.0; plain = a.leaves.1; work = a.leaves.2 } in
@@ -242,8 +231,7 @@ traced names old new status apart d =
           (ap (read_as script_in) script_there ∙ ap result_ok script_is)
           (ap (read_as image_of) image_there ∙ ap result_ok image_is) legal rows refl
           (subst (λ (w : List ℕ). Known (λ x y. y ≡ x ++ w) old.sink.sent new.sink.sent)
-          (said_is ∙ ap (λ w. sent_by steps ++ w) a.none ∙ append-nil (sent_by steps)
-          ∙ traced_sent names program script i a.fit) sent) a.answers;
+          (a.all ∙ traced_sent names program script i a.fit) sent) a.answers;
       stored = stored;
       fit = a.fit;
       within = trace_within t good a.fit;
@@ -258,3 +246,13 @@ traced names old new status apart d =
       others = λ other p q. ap (λ (f : Files). f other) stored
           ∙ other_kept names (bytes_of_trace t) (image_by program script i) before other p q;
     })
+
+pub trace_proved : (names : TraceNames) → Proved (TraceOn names)
+trace_proved names = record {
+  gives = trace_gives names;
+  not_one = λ can. cc;
+  good = λ holds are good. trace_good names holds good;
+  spares = spares_by None (trace_plan names) (trace_takes names);
+  tells = zero_or_eight_tells;
+  promised = λ old new status d. traced names old new status d.apart d.delivers;
+}

@@ -1,12 +1,11 @@
 -- The parts of a recorded execution.
 use Rattle.std.proofs.Common.{◌≡◌, ℕ, ◌+◌, ◌*◌, ◌≤◌, Bool, true, false, List, [], ◌∷◌, ◌++◌}
 use Rattle.std.proofs.Common.{Some, None, refl, sym, ◌∙◌, ap, subst, inl, inr, length}
-use Rattle.std.proofs.Common.{append-nil, append_assoc, add_assoc}
+use Rattle.std.proofs.Common.{append-nil, append_assoc}
 use Rattle.std.specs.Prelude.{Option, Result, Ok, Err, count_by}
 use Rattle.std.specs.List.{AllByRecursion}
 use Rattle.faults.specs.Counts.{Rose}
 use Rattle.host_edge.specs.Views.{AppendsPart, FolderView, SinkView, Known}
-use Rattle.dram_model.specs.declared.dram.Counters.{Counters}
 use Rattle.dram_model.specs.declared.geometry.Geometry.{Geometry}
 use Rattle.dram_model.specs.Geometry.{is_geometry}
 use Rattle.dram_model.specs.Chip.{Banks, Event, Grew, after, all_counted}
@@ -26,10 +25,8 @@ use Rattle.machine_model.specs.Pieces.{piece_events, turn_after}
 use Rattle.machine_model.specs.Report.{Said, line, said_by, said_in_rows, total_line}
 use Rattle.machine_model.specs.Script.{banks_at_end, is_refused, replies, rows_printed, sum_done}
 use Rattle.machine_model.specs.Script.{table_at_end}
-use Rattle.machine_model.proofs.Pieces.{events_are_steps}
 use Rattle.sim_machine.specs.declared.machine.Machine.{Machine}
 use Rattle.sim_machine.specs.Machine.{geometry_of, is_print, program_of, table_in}
-use Rattle.sim_machine.specs.Opening.{machine_on}
 use Rattle.sim_machine.specs.Steps.{DidAndRead}
 use Rattle.object_steps.specs.Objects.{LiesOn}
 use Rattle.trace_model.specs.Replay.{script_trace}
@@ -52,19 +49,20 @@ use Rattle.simdram_cli.specs.declared.words.TraceNames.{TraceNames}
 use Rattle.simdram_cli.specs.declared.stop.Stop.{Stop}
 use Rattle.simdram_cli.specs.declared.stop.Stop.TheVariants as stop
 use Rattle.simdram_cli.specs.Stops.{reason_of, trace_full}
-use Rattle.simdram_cli.specs.Job.{done_status, image_by, instr_steps, opened_counters, piece_steps}
-use Rattle.simdram_cli.specs.Job.{opening, pieces_steps, put_lines, reading, reading_by}
-use Rattle.simdram_cli.specs.Job.{refused_by, script_steps, tally_by}
-use Rattle.simdram_cli.specs.Plans.{said_of}
+use Rattle.simdram_cli.specs.Job.{done_status, instr_steps, piece_steps}
+use Rattle.simdram_cli.specs.Job.{opening, pieces_steps, put_lines, reading}
+use Rattle.simdram_cli.specs.Job.{refused_by, script_steps}
+use Rattle.simdram_cli.specs.Plans.{script_said}
 use Rattle.simdram_cli.specs.Works.{WorkDone}
 use Rattle.simdram_cli.specs.Tracing.{OpensOn, ScriptRecorded, ScriptTraced, TraceLeft, events_on}
 use Rattle.simdram_cli.specs.Tracing.{fits, full_plan, image_on, reading_on, reads_on}
 use Rattle.simdram_cli.specs.Tracing.{recorded_steps, steps_on}
 use Rattle.simdram_cli.specs.Tracing.{store_steps, total_steps, traced_plan, traced_steps}
 use Rattle.simdram_cli.specs.Tracing.{unless_fits, unlogged}
-use Rattle.simdram_cli.proofs.Progress.{Holds, holds_of}
+use Rattle.simdram_cli.proofs.Performing.{Started, first_are, first_steps, left_by, own_events}
+use Rattle.simdram_cli.proofs.Performing.{own_table, reads_twice, total_is}
+use Rattle.simdram_cli.proofs.Progress.{holds_of}
 use Rattle.simdram_cli.proofs.Stores.{nothing_read, sent, use_broke, used}
-use Rattle.simdram_cli.proofs.Tallies.{tally_is}
 
 -- a script is done, and the image after it stored
 
@@ -111,10 +109,6 @@ image_is_on m n script a b e t s =
     ∙ ap (λ (x : List Named). image_bytes (geometry_of m) x (rows_in_banks b.banks)) t
     ∙ ap (λ (x : Banks). image_bytes (geometry_of m) (table_at_end (geometry_of m)
     (routines_in (program_of m)) (table_in m) script) (rows_in_banks x)) s
-
-reads_twice : (m n : ℕ) (k : Counters) → with_reads n (with_reads m k) ≡ with_reads (m + n) k
-reads_twice m n k = ap (λ (r : ℕ). let c : Counters = record k { reads = r } in c)
-    (add_assoc k.reads m n)
 
 -- rows are read after what was done
 pub did_read_more : (events : List Event) (m n : ℕ) (a b c : ChipView) → DidAndRead events m a b
@@ -212,79 +206,8 @@ pieces_begin on g o turn table banks number (piece ∷ pieces) rest =
     (Use on ∷ rest)))
     (piece_begins g o turn table banks number piece (others ++ (Use on ∷ rest)))
 
--- a machine that was opened on an image with a program, and the view of its chip
-pub record Started (program : Program) (i : Image) (m : Machine) (start : ChipView) : Type 0 where
-  pub machine_is : m ≡ machine_on i.geometry program i.table
-  pub holds : Holds i.geometry i.table
-  pub banks : start.banks ≡ opened i
-  pub counters : start.counters ≡ opened_counters i.geometry
-  pub geometry : start.geometry ≡ i.geometry
-
-own_lines : (program : Program) (script : List Instruction) (i : Image) (m : Machine)
-    (banks : Banks) → m ≡ machine_on i.geometry program i.table → banks ≡ opened i
-    → steps_on m banks script ≡ script_steps program script i
-own_lines program script i m banks e s = rw (e, s) refl
-
-own_events : (program : Program) (script : List Instruction) (i : Image) (m : Machine)
-    (start : ChipView) → Started program i m start
-    → events_on m script ≡ script_events i.geometry (routines_in program) i.table script
-own_events program script i m start s = rw s.machine_is refl
-
-own_reads : (program : Program) (script : List Instruction) (i : Image) (m : Machine)
-    (start : ChipView) → Started program i m start
-    → reads_on m script ≡ sum_done rows_printed i.geometry (routines_in program) i.table script
-    + i.geometry.banks * i.geometry.rows
-own_reads program script i m start s = rw s.machine_is refl
-
-own_banks : (program : Program) (script : List Instruction) (i : Image) (m : Machine)
-    (start : ChipView) → Started program i m start → after (events_on m script) start.banks
-    ≡ banks_at_end i.geometry (routines_in program) i.table (opened i) script
-own_banks program script i m start s =
-    ap (λ (es : List Event). after es start.banks) (own_events program script i m start s)
-    ∙ ap (after (script_events i.geometry (routines_in program) i.table script)) s.banks
-    ∙ events_are_steps i.geometry (routines_in program) Ahead i.table script (opened i)
-    s.holds.words s.holds.fits
-
-own_image : (program : Program) (script : List Instruction) (i : Image) (m : Machine)
-    (start : ChipView) → Started program i m start
-    → image_on m start.banks script ≡ image_by program script i
-own_image program script i m start s =
-    let o = routines_in program in
-    let same : table_at_end (geometry_of m) (routines_in (program_of m)) (table_in m) script
-    ≡ table_at_end i.geometry o i.table script =
-    rw s.machine_is refl in
-    let banks = own_banks program script i m start s in
-    ap (λ (g : Geometry). image_bytes g (table_at_end (geometry_of m)
-    (routines_in (program_of m)) (table_in m) script)
-    (rows_in_banks (after (events_on m script) start.banks))) (ap geometry_of s.machine_is)
-    ∙ ap (λ (t : List Named). image_bytes i.geometry t
-    (rows_in_banks (after (events_on m script) start.banks))) same
-    ∙ ap (λ (b : Banks). image_bytes i.geometry (table_at_end i.geometry o i.table script)
-    (rows_in_banks b)) banks
-
--- the steps to the store of the image
-abbrev pub first_steps : TraceNames → Program → List Instruction → Image → List Step
-first_steps names program script i =
-    script_steps program script i ++ (reading_by program script i
-    ∷ Store names.out.now (image_by program script i) ∷ [])
-
-first_are : (names : TraceNames) (program : Program) (script : List Instruction) (i : Image)
-    (m : Machine) (start : ChipView) → Started program i m start
-    → steps_on m start.banks script
-    ++ (reading_on m start.banks script ∷ Store names.out.now (image_on m start.banks script) ∷ [])
-    ≡ first_steps names program script i
-first_are names program script i m start s =
-    ap (λ (xs : List Step). xs ++ (reading_on m start.banks script ∷ Store names.out.now (image_on m start.banks script) ∷ []))
-    (own_lines program script i m start.banks s.machine_is s.banks)
-    ∙ ap (λ (banks : Banks). script_steps program script i ++ (reading banks
-    ∷ Store names.out.now (image_on m start.banks script) ∷ []))
-    (own_banks program script i m start s)
-    ∙ ap (λ (bytes : List ℕ). script_steps program script i
-    ++ (reading_by program script i ∷ Store names.out.now bytes ∷ []))
-    (own_image program script i m start s)
-
 all_are : (names : TraceNames) (program : Program) (script : List Instruction) (i : Image)
-    → first_steps names program script i
+    → first_steps names.out.now program script i
     ++ store_steps (fits program script i) names.trace.now program script i
     ≡ recorded_steps names program script i
 all_are names program script i = append_assoc (script_steps program script i) _ _
@@ -317,45 +240,13 @@ pub first_failed : (names : TraceNames) (program : Program) (script : List Instr
 first_failed names program script i why m files sink old new from to s p q r g =
     let end = Stopped (reason_of why) in
     let first = subst (λ (xs : List Step). Goes xs end (world files sink from) to)
-    (first_are names program script i m from s) g in
+    (first_are names.out.now program script i m from s) g in
     inl (below names program script i end files sink old new from to p q r
     (subst (λ (xs : List Step). Goes xs end (world files sink from) to)
     (all_are names program script i)
-    (stops (first_steps names program script i)
+    (stops (first_steps names.out.now program script i)
     (store_steps (fits program script i) names.trace.now program script i) (reason_of why)
     (world files sink from) to first)))
-
--- what the chip shows when the script was done
-left_by : (program : Program) (script : List Instruction) (i : Image) (m : Machine)
-    (from last new : ChipView) (refused : ℕ) → Started program i m from
-    → DidAndRead (events_on m script) (reads_on m script) from last
-    → new.banks ≡ last.banks → new.counters ≡ last.counters
-    → refused ≡ count_by is_refused (replies (geometry_of m) (routines_in (program_of m))
-    (table_in m) script) → HasBegun new → new.geometry ≡ i.geometry
-    → WorkDone program script i (unlogged new) refused
-left_by program script i m from last new refused s did banks counters count begun geometry =
-    let o = routines_in program in
-    let events = script_events i.geometry o i.table script in
-    let printed = sum_done rows_printed i.geometry o i.table script in
-    let all = i.geometry.banks * i.geometry.rows in
-    let own : DidAndRead events (printed + all) from last =
-    subst (λ (es : List Event). DidAndRead es (printed + all) from last)
-    (own_events program script i m from s)
-    (subst (λ (n : ℕ). DidAndRead (events_on m script) n from last)
-    (own_reads program script i m from s) did) in
-    record {
-      begun = begun;
-      geometry = geometry;
-      banks = banks ∙ own.banks ∙ ap (after events) s.banks
-          ∙ events_are_steps i.geometry o Ahead i.table script (opened i) s.holds.words
-          s.holds.fits;
-      counters = counters ∙ own.counters
-          ∙ ap (λ k. with_reads (printed + all) (all_counted events k)) s.counters
-          ∙ sym (reads_twice printed all (all_counted events (opened_counters i.geometry)))
-          ∙ tally_is program script i s.holds;
-      log = tt;
-      refused_is = count ∙ rw s.machine_is refl;
-    }
 
 -- the recorder saw the script's events
 saw_script : (program : Program) (script : List Instruction) (i : Image) (m : Machine)
@@ -404,12 +295,6 @@ not_all : (g : Geometry) (program : Program) (script : List Instruction) (i : Im
 not_all g program script i table file all e none spelled =
     ap (λ (x : Geometry). all_fit x (script_trace program i script).events) (sym e)
     ∙ sym spelled.all_is ∙ none
-
-own_table : (program : Program) (script : List Instruction) (i : Image) (m : Machine)
-    (from : ChipView) → Started program i m from
-    → table_at_end (geometry_of m) (routines_in (program_of m)) (table_in m) script
-    ≡ table_at_end i.geometry (routines_in program) i.table script
-own_table program script i m from s = rw s.machine_is refl
 
 pub started_at : (program : Program) (i : Image) (m : Machine) (old from : ChipView)
     → OpensOn program i m old → from ≡ record old { log = Some empty_log }
@@ -469,11 +354,11 @@ module _ (names : TraceNames) (script : List Instruction) (m : Machine) (files :
       let a = world files sink from in
       let mid = world after sent (recorded last tape) in
       let first = subst (λ (xs : List Step). Goes xs Done a mid)
-      (first_are names program script i m from begun_at) d.goes in
+      (first_are names.out.now program script i m from begun_at) d.goes in
       below names program script i end files sink old last from to
       (sym (ap (λ (v : ChipView). v.faults) d.same)) q r
       (subst (λ (xs : List Step). Goes xs end a to) (all_are names program script i)
-      (goes_on (first_steps names program script i)
+      (goes_on (first_steps names.out.now program script i)
       (store_steps (fits program script i) names.trace.now program script i) end a mid to first g))
 
   -- too many events
@@ -600,15 +485,14 @@ not_recorded names program script i why a b c g (inr w) =
       w.4,
     )
 
-total_goes : (program : Program) (script : List Instruction) (i : Image) (k : Counters)
+total_goes : (program : Program) (script : List Instruction) (i : Image) (chip : ChipView)
     (refused : ℕ) (end : End) (a b : World) → fits program script i ≡ true
-    → k ≡ tally_by program script i → refused ≡ refused_by program script i
-    → Goes (Put (total_line k refused) ∷ []) end a b
+    → WorkDone program script i chip refused
+    → Goes (Put (total_line chip.counters refused) ∷ []) end a b
     → Goes (total_steps (fits program script i) program script i) end a b
-total_goes program script i k refused end a b all e f g =
+total_goes program script i chip refused end a b all w g =
     subst (λ (x : Bool). Goes (total_steps x program script i) end a b) (sym all)
-    (subst (λ (x : Counters). Goes (Put (total_line x (refused_by program script i)) ∷ []) end a b)
-    e (subst (λ (n : ℕ). Goes (Put (total_line k n) ∷ []) end a b) f g))
+    (total_is program script i chip refused end a b w g)
 
 -- the line of the totals is not sent, or is
 pub total_unsent : (names : TraceNames) (program : Program) (script : List Instruction) (i : Image)
@@ -624,8 +508,8 @@ total_unsent names program script i refused a b files s t chip g w p n r =
     inl (from_open names program script i (Stopped PutFailed) a b end g
     (goes_on (recorded_steps names program script i)
     (total_steps (fits program script i) program script i) (Stopped PutFailed) b mid end w.1
-    (total_goes program script i chip.counters refused (Stopped PutFailed) mid end
-    (fits_so (fits program script i) w.0) w.2.counters w.2.refused_is
+    (total_goes program script i (unlogged chip) refused (Stopped PutFailed) mid end
+    (fits_so (fits program script i) w.0) w.2
     (inr (refl, sent (AppendsPart (total_line chip.counters refused)) files s t chip p n, r)))))
 
 pub total_sent : (names : TraceNames) (program : Program) (script : List Instruction) (i : Image)
@@ -643,8 +527,8 @@ total_sent names program script i refused a b files s t chip g w p n =
       from_open names program script i Done a b end g
           (goes_on (recorded_steps names program script i)
           (total_steps (fits program script i) program script i) Done b mid end w.1
-          (total_goes program script i chip.counters refused Done mid end
-          (fits_so (fits program script i) w.0) w.2.counters w.2.refused_is
+          (total_goes program script i (unlogged chip) refused Done mid end
+          (fits_so (fits program script i) w.0) w.2
           (inl (end, (sent (λ before after. after ≡ before ++ line) files s t chip p n, refl))))),
       w.2,
     )
@@ -687,7 +571,7 @@ own_count program script i chip refused w = record {
 pub script_runs : (names : TraceNames) (program : Program) (script : List Instruction) (i : Image)
     (result : Result ℕ Stop) (old new : World) → IsImage i.geometry i.table i.rows
     → AllByRecursion IsPlain script → ScriptTraced names program script i old new result
-    → Runs (traced_plan names program script i) old new (said_of result)
+    → Runs (traced_plan names program script i) old new (script_said result)
 script_runs names program script i (Ok refused) old new is plain w =
     runs_then (traced_steps names program script i) _ _ old new new w.1
     (full_done (fits program script i) program script i refused new

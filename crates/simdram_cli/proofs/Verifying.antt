@@ -1,8 +1,9 @@
 -- The facts of `verify`: its statuses, its files, its memory, and what one that is done promises.
-use Rattle.std.proofs.Common.{◌≡◌, ◌⊎◌, ℕ, Bool, true, false, cond, List, [], ◌∷◌, ◌++◌, Option, Some, None}
-use Rattle.std.proofs.Common.{refl, sym, ◌∙◌, ap, subst, inl, inr, append-nil}
-use Rattle.std.specs.Prelude.{◌==◌, ◌&&◌, not, map, Result, Ok, Err}
-use Rattle.std.specs.List.{list_all, list_any}
+use Rattle.std.proofs.Common.{◌≡◌, ℕ, Bool, true, false, cond, List, [], ◌∷◌, ◌++◌, Option, None}
+use Rattle.std.proofs.Common.{append-nil}
+use Rattle.std.proofs.Common.{refl, sym, ◌∙◌, subst}
+use Rattle.std.specs.Prelude.{map}
+use Rattle.std.specs.List.{list_all}
 use Rattle.host_edge.specs.Views.{Files, Known}
 use Rattle.uprog_code.specs.Texts.{text_op}
 use Rattle.verify_job.specs.declared.finding.OpFindings.{OpFindings}
@@ -10,51 +11,24 @@ use Rattle.verify_job.specs.Findings.{is_right_throughout, may_be_right_througho
 use Rattle.verify_job.specs.Report.{report}
 use Rattle.verify_job.proofs.Found.{all_right}
 use Rattle.cli_model.specs.World.{World}
-use Rattle.cli_model.specs.Status.{Tells}
 use Rattle.cli_model.specs.Steps.{Take}
-use Rattle.cli_model.specs.Plan.{Loads, Makes, Plan, Then}
-use Rattle.cli_model.specs.Runs.{EndsBy, Runs}
+use Rattle.cli_model.specs.Plan.{Loads, Makes, Then}
 use Rattle.cli_model.specs.Faultless.{file_in}
-use Rattle.cli_model.proofs.Delivering.{IsDelivered, known_delivered, plan_delivers}
-use Rattle.cli_model.proofs.Giving.{plan_answers}
-use Rattle.cli_model.proofs.Owed.{GoodFor, Gives, NotTen, TakesFirst}
-use Rattle.cli_model.proofs.Running.{plan_ends}
-use Rattle.simdram_cli.specs.declared.stop.Stop.{Stop}
+use Rattle.cli_model.proofs.Delivering.{IsDelivered, known_delivered}
+use Rattle.cli_model.proofs.Owed.{GoodFor, NotTen, TakesFirst}
 use Rattle.simdram_cli.specs.declared.words.Command.TheVariants.{Verify}
 use Rattle.simdram_cli.specs.declared.words.VerifyNames.{VerifyNames}
 use Rattle.simdram_cli.specs.declared.words.TheConstants.{OPS_MAX, PROG_MAX}
-use Rattle.simdram_cli.specs.Commands.{CanAnswer, statuses}
-use Rattle.simdram_cli.specs.Complete.{IsOps, IsProg}
+use Rattle.simdram_cli.specs.Commands.{CanAnswer}
+use Rattle.simdram_cli.specs.GoodFiles.{IsOps, IsProg}
 use Rattle.simdram_cli.specs.Inputs.{ops_in}
 use Rattle.simdram_cli.specs.Programs.{prog_in}
-use Rattle.simdram_cli.specs.Stops.{end_of}
-use Rattle.simdram_cli.specs.Verify.{IsFound, IsVerifyDone, Verified, found_plan, verify_answer}
-use Rattle.simdram_cli.specs.Verify.{verify_plan, verify_said}
-use Rattle.simdram_cli.proofs.Completes.{IsOneOf}
+use Rattle.simdram_cli.specs.Verify.{IsFound, Verified, found_plan}
+use Rattle.simdram_cli.specs.Verify.{verify_plan}
 use Rattle.simdram_cli.proofs.JobPlans.{good_file, ops_refuses, prog_refuses}
-use Rattle.simdram_cli.proofs.Migrating.{one_sent, read_from}
+use Rattle.simdram_cli.proofs.Migrating.{read_from}
 use Rattle.simdram_cli.proofs.OpsPlans.{spells_at}
-use Rattle.simdram_cli.proofs.Tallies.{both}
-
--- a status of the command under which no report was sent
-abbrev pub IsUnsent : VerifyNames → ℕ → Type 0
-IsUnsent names status = (list_any (λ s. s == status) (statuses (Verify names))
-    && not (list_any (λ s. s == status) (0 ∷ 19 ∷ 20 ∷ []))) ≡ true
-
-unsent_can : (names : VerifyNames) (status : ℕ) → IsUnsent names status
-    → CanAnswer (Verify names) status
-unsent_can names status f =
-    (both (list_any (λ s. s == status) (statuses (Verify names)))
-    (not (list_any (λ s. s == status) (0 ∷ 19 ∷ 20 ∷ []))) f).0
-
--- it is none of those of a report
-unsent_apart : (names : VerifyNames) (status : ℕ) → IsVerifyDone status → IsUnsent names status → ⊥
-unsent_apart names status (inl e) f =
-    let one : IsUnsent names 0 = subst (IsUnsent names) e f in cc
-unsent_apart names status (inr (inl e)) f =
-    let one : IsUnsent names 19 = subst (IsUnsent names) e f in cc
-unsent_apart names status (inr (inr e)) f =
-    let one : IsUnsent names 20 = subst (IsUnsent names) e f in cc
+use Rattle.simdram_cli.proofs.Planned.{GivesOwn, IsFailing, IsOneOf, Proved, spares_by, verify_tells}
 
 status_so : (P : ℕ → Type 0) (a b : Bool) → P 0 → P 19 → P 20 → P (cond a 0 (cond b 20 19))
 status_so P true b zero wrong unknown = zero
@@ -67,18 +41,17 @@ found_so P findings zero wrong unknown =
     status_so P (list_all is_right_throughout findings)
     (list_all may_be_right_throughout findings) zero wrong unknown
 
-verify_gives : (names : VerifyNames)
-    → Gives (IsUnsent names) (CanAnswer (Verify names)) (verify_plan names)
+verify_gives : (names : VerifyNames) → GivesOwn (Verify names) (verify_plan names)
 verify_gives names = (
   refl,
   refl,
   refl,
-  ops_refuses (IsUnsent names) refl,
+  ops_refuses (IsFailing (Verify names)) refl,
   λ ops_text u. (
     refl,
     refl,
     refl,
-    prog_refuses (IsUnsent names) refl,
+    prog_refuses (IsFailing (Verify names)) refl,
     λ prog_text program. (
       (refl, tt),
       λ found. (
@@ -88,18 +61,6 @@ verify_gives names = (
     ),
   ),
 )
-
-pub verify_can : (names : VerifyNames) (old new : World) (status : ℕ)
-    → EndsBy (verify_plan names) old new status → CanAnswer (Verify names) status
-verify_can names old new status e =
-    plan_answers (IsUnsent names) (CanAnswer (Verify names)) (CanAnswer (Verify names)) (verify_plan names)
-    old new status (verify_gives names) (unsent_can names) (λ s c. c) e
-
-pub verify_done : (names : VerifyNames) (old new : World) (status : ℕ) → IsVerifyDone status
-    → EndsBy (verify_plan names) old new status → IsDelivered (verify_plan names) old new status
-verify_done names old new status is e =
-    plan_delivers (IsUnsent names) (CanAnswer (Verify names)) (verify_plan names) old new status
-    (verify_gives names) (unsent_apart names status is) e
 
 pub verify_takes : (names : VerifyNames) → TakesFirst None (verify_plan names)
 verify_takes names = (
@@ -138,29 +99,9 @@ verified names old new status d =
     (λ before after said sent (
       ops_text,
       ops_there,
-      ops_within,
       u,
       ops_is,
-      (
-        prog_text,
-        prog_there,
-        prog_within,
-        program,
-        prog_is,
-        (
-          one,
-          e,
-          (
-            found,
-            is,
-            (
-              two,
-              f,
-              (same, none, answers, left),
-            ),
-          ),
-        ),
-      ),
+      (prog_text, prog_there, program, prog_is, (found, is, (same, all, answers, left))),
     ).
     let own = read_from (before names.prog.now) prog_text program prog_there prog_is is.file in
     record {
@@ -178,15 +119,15 @@ verified names old new status d =
           (sym answers ∙ zero) is.are;
       files = same;
       sent = subst (λ (bytes : List ℕ). Known (λ x y. y ≡ x ++ bytes) old.sink.sent new.sink.sent)
-          (one_sent said one two (report names.widths.items found.ops found.findings) e f none) sent;
+          (all ∙ append-nil (report names.widths.items found.ops found.findings)) sent;
     })
 
--- how it ends whose function went through its plan
-pub verify_answered : (names : VerifyNames) (result : Result ℕ Stop) (old mid new : World)
-    (status : ℕ) → Runs (verify_plan names) old mid (verify_said result)
-    → Tells (end_of result) mid new → status ≡ verify_answer result
-    → EndsBy (verify_plan names) old new status
-verify_answered names (Ok own) old mid new status r tells answers =
-    plan_ends (verify_plan names) (verify_said (Ok own)) old mid new status r tells answers
-verify_answered names (Err stop) old mid new status r tells answers =
-    plan_ends (verify_plan names) (verify_said (Err stop)) old mid new status r tells answers
+pub verify_proved : (names : VerifyNames) → Proved (Verify names)
+verify_proved names = record {
+  gives = verify_gives names;
+  not_one = λ can. cc;
+  good = λ holds are good. verify_good names holds good;
+  spares = spares_by None (verify_plan names) (verify_takes names);
+  tells = verify_tells;
+  promised = λ old new status d. verified names old new status d.delivers;
+}

@@ -1,6 +1,6 @@
 -- The widths that a word lists: its parts, and spans of numbers that rise.
 use Rattle.std.proofs.Common.{◌≡◌, ℕ, zero, suc, ◌+◌, ◌-◌, ◌<◌, ◌≤◌, Bool, true, false, cond, not}
-use Rattle.std.proofs.Common.{List, [], ◌∷◌, ◌++◌, length, take, drop, map, Option, Some, None, refl}
+use Rattle.std.proofs.Common.{List, [], ◌∷◌, ◌++◌, length, take, drop, Option, Some, None, refl}
 use Rattle.std.proofs.Common.{sym, ◌∙◌, ap, subst, arith, flat_map}
 use Rattle.std.specs.Prelude.{◌==◌, ◌&&◌, nat_le, nat_lt}
 use Rattle.std.specs.List.{AllByRecursion, after_first, before_first, list_all, position_or_len}
@@ -159,12 +159,25 @@ some_widths true ns ws are e = let same : ns ≡ ws = cc in subst AreWidths same
 some_widths false ns ws are e = absurd (cc)
 
 -- a word lists widths
-pub widths_are : (word ws : List ℕ) → widths_in word ≡ Some ws → AreWidths ws
+widths_are : (word ws : List ℕ) → widths_in word ≡ Some ws → AreWidths ws
 widths_are word ws e =
     let ns = flat_map span_numbers (parts_of word) in
     some_widths (list_all is_span (parts_of word) && rise_from 0 ns) ns ws
     (λ t. All-from_recursion (λ (n : ℕ). (0 < n) × (n ≤ WIDTH_MAX)) ns
     (widths_rise 0 ns (second_true (list_all is_span (parts_of word)) (rise_from 0 ns) t))) e
+
+listed_as : {A : Type 0} (x : A) (items : A → List ℕ) (make : List ℕ → A) (o : Option (List ℕ))
+    → ((ws : List ℕ) → items (make ws) ≡ ws) → option_map make o ≡ Some x → o ≡ Some (items x)
+listed_as x items make (Some ws) own e =
+    ap (λ n. Some n) (sym (own ws)) ∙ ap (option_map items) e
+listed_as x items make None own e = absurd (cc)
+
+-- so they are as the code keeps them
+pub widths_by : {A : Type 0} (x : A) (items : A → List ℕ) (make : List ℕ → A) (word : List ℕ)
+    → ((ws : List ℕ) → items (make ws) ≡ ws) → option_map make (widths_in word) ≡ Some x
+    → AreWidths (items x)
+widths_by x items make word own e =
+    widths_are word (items x) (listed_as x items make (widths_in word) own e)
 
 -- what the parts that are left come to, behind widths of which this is the last
 abbrev pub listed : ℕ → List ℕ → List (List ℕ) → Option (List ℕ)

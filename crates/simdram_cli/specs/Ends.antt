@@ -1,5 +1,5 @@
 -- How a job and a run go and end.
-use Rattle.std.specs.Prelude.{◌≡◌, map, ℕ, List, [], ◌∷◌, None, Result, Ok, Err}
+use Rattle.std.specs.Prelude.{◌≡◌, map, ℕ, List, [], ◌∷◌, None, Ok}
 use Rattle.dram_model.specs.View.{ChipView}
 use Rattle.host_edge.specs.Views.{FolderView, SinkView}
 use Rattle.uprog_bin.specs.Spelling.{program_bytes}
@@ -12,14 +12,10 @@ use Rattle.uprog_code.specs.Texts.{ImplementsAll, text_op}
 use Rattle.cli_model.specs.World.{world}
 use Rattle.cli_model.specs.Steps.{Step, Load, Take, Store, Reason, End, Done, Stopped}
 use Rattle.cli_model.specs.Steps.{Goes, loading}
-use Rattle.cli_model.specs.Status.{reason_status}
 use Rattle.simdram_cli.specs.declared.words.TheConstants.{OPS_MAX}
-use Rattle.simdram_cli.specs.declared.stop.Stop.{Stop}
 use Rattle.simdram_cli.specs.Accepted.{IsTaken}
 use Rattle.simdram_cli.specs.Inputs.{ops_in}
-use Rattle.simdram_cli.specs.Stops.{reason_of}
 use Rattle.cli_model.specs.Reads.{IsText}
-use Rattle.simdram_cli.specs.Job.{done_status}
 
 -- the program is one that a file can hold, does the ops that the text has, and takes for each
 -- exactly the row commands of its statements; and each command that loads a program file takes its
@@ -67,8 +63,3 @@ pub record ProgramStopped (ops prog : List ℕ) (reason : Reason) (old new : Fol
     pub goes : (sink : SinkView) (chip : ChipView)
         → Goes (first_steps ops prog program text) (Stopped reason) (world old sink chip)
         (world new sink chip)
-
--- the status that a result is answered with
-abbrev pub answer_to : Result ℕ Stop → ℕ
-answer_to (Ok refused) = done_status refused
-answer_to (Err stop) = reason_status (reason_of stop)

@@ -26,7 +26,8 @@ pub mod Tracing
 pub mod Replay
 pub mod Guard
 pub mod Verify
+pub mod GoodFiles
+pub mod Facts
 pub mod Commands
-pub mod Complete
 pub mod Numbers
 pub mod Widths

@@ -8,8 +8,12 @@ use Rattle.bbop_isa.specs.Forms.{Instruction}
 use Rattle.machine_model.specs.Agrees.{IsPlain}
 use Rattle.machine_model.specs.Opened.{Image}
 use Rattle.machine_model.specs.Routines.{Program}
+use Rattle.cli_model.specs.Status.{reason_status}
 use Rattle.cli_model.specs.Steps.{Reason, Take, Store}
 use Rattle.cli_model.specs.Plan.{Plan, Loads, Makes, Then, Answers}
+use Rattle.simdram_cli.specs.declared.completion.Completion.{Completion}
+use Rattle.simdram_cli.specs.declared.completion.Completion.TheVariants.{AllDone, Found}
+use Rattle.simdram_cli.specs.declared.completion.Completion.TheVariants.{SomeRefused}
 use Rattle.simdram_cli.specs.declared.job.JobNames.{JobNames}
 use Rattle.simdram_cli.specs.declared.stop.Stop.{Stop}
 use Rattle.simdram_cli.specs.declared.words.TheConstants.{IMAGE_MAX, OPS_MAX, SCRIPT_MAX}
@@ -19,10 +23,26 @@ use Rattle.simdram_cli.specs.Job.{done_status, refused_by, work_steps}
 use Rattle.simdram_cli.specs.Stops.{reason_of}
 use Rattle.simdram_cli.specs.Works.{WorkDone}
 
+-- the exit status of a command that is done
+abbrev pub completion_status : Completion → ℕ
+completion_status AllDone = 0
+completion_status SomeRefused = 8
+completion_status (Found status) = status
+
 -- what a command's function says: its status, or why it stopped
-abbrev pub said_of : Result ℕ Stop → Result ℕ Reason
-said_of (Ok refused) = Ok (done_status refused)
+abbrev pub said_of : Result Completion Stop → Result ℕ Reason
+said_of (Ok completion) = Ok (completion_status completion)
 said_of (Err stop) = Err (reason_of stop)
+
+-- and of a script, of which so many instructions were refused
+abbrev pub script_said : Result ℕ Stop → Result ℕ Reason
+script_said (Ok refused) = Ok (done_status refused)
+script_said (Err stop) = Err (reason_of stop)
+
+-- the exit status of a command
+abbrev pub answer_to : Result Completion Stop → ℕ
+answer_to (Ok completion) = completion_status completion
+answer_to (Err stop) = reason_status (reason_of stop)
 
 -- the script that was read was done on the image that was read
 abbrev pub JobLeft : Program → List Instruction → Image → ChipView → Type 0

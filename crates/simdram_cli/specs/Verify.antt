@@ -1,5 +1,5 @@
 -- The command `verify`.
-use Rattle.std.specs.Prelude.{◌≡◌, ◌⊎◌, map, ℕ, List, [], ◌∷◌, ◌++◌, Some, Result, Ok, Err}
+use Rattle.std.specs.Prelude.{◌≡◌, ◌⊎◌, map, ℕ, List, [], ◌∷◌, ◌++◌, Some}
 use Rattle.host_edge.specs.Views.{Files, Known}
 use Rattle.op_text.specs.Language.{Operation}
 use Rattle.op_text.specs.OpsOf.{IsOpsOf}
@@ -12,26 +12,13 @@ use Rattle.verify_job.specs.declared.finding.OpFindings.{OpFindings}
 use Rattle.verify_job.specs.Findings.{AreFindings, HaveRight, status_of}
 use Rattle.verify_job.specs.Report.{report}
 use Rattle.cli_model.specs.World.{World}
-use Rattle.cli_model.specs.Status.{reason_status}
-use Rattle.cli_model.specs.Steps.{Put, Reason, Take}
+use Rattle.cli_model.specs.Steps.{Put, Take}
 use Rattle.cli_model.specs.Plan.{Answers, Loads, Makes, Plan, Then}
-use Rattle.simdram_cli.specs.declared.stop.Stop.{Stop}
 use Rattle.simdram_cli.specs.declared.words.TheConstants.{OPS_MAX, PROG_MAX}
 use Rattle.simdram_cli.specs.declared.words.VerifyNames.{VerifyNames}
 use Rattle.simdram_cli.specs.Headline.{Spells}
 use Rattle.simdram_cli.specs.Inputs.{ops_in}
 use Rattle.simdram_cli.specs.Programs.{prog_in}
-use Rattle.simdram_cli.specs.Stops.{reason_of}
-
--- what its function says: the status of what it found, or why it stopped
-abbrev pub verify_said : Result ℕ Stop → Result ℕ Reason
-verify_said (Ok status) = Ok status
-verify_said (Err stop) = Err (reason_of stop)
-
--- the status that it is answered with
-abbrev pub verify_answer : Result ℕ Stop → ℕ
-verify_answer (Ok status) = status
-verify_answer (Err stop) = reason_status (reason_of stop)
 
 -- the ops of a text, and what is found of a program's entries of their names
 pub record Found : Type 0 where

@@ -1,6 +1,6 @@
 -- The words of a command.
-use Rattle.std.specs.Prelude.{◌≡◌, ℕ, Bool, true, false, not, ◌&&◌, List, [], ◌∷◌, Option, Some}
-use Rattle.std.specs.Prelude.{None, ◌<◌, ◌≤◌, ◌^◌, nat_le, nat_lt}
+use Rattle.std.specs.Prelude.{ℕ, Bool, true, not, ◌&&◌, List, [], ◌∷◌, Option, Some}
+use Rattle.std.specs.Prelude.{None, ◌^◌, nat_le, nat_lt}
 use Rattle.std.specs.Prelude.{bytes_eq, codes, if◌then◌else◌}
 use Rattle.std.specs.List.{list_all}
 use Rattle.std.specs.Option.{option_map}
@@ -22,10 +22,9 @@ use Rattle.simdram_cli.specs.declared.words.GuardNames.{GuardNames}
 use Rattle.simdram_cli.specs.declared.account.Account.{Account}
 use Rattle.simdram_cli.specs.declared.account.Account.TheVariants.{OfProgram}
 use Rattle.simdram_cli.specs.declared.account.ProgramAccount.TheVariants.{Costs}
-use Rattle.simdram_cli.specs.Accounts.{HasWidths, account_named}
+use Rattle.simdram_cli.specs.Accounts.{account_named}
 use Rattle.simdram_cli.specs.Numbers.{is_number, value_of}
 use Rattle.simdram_cli.specs.Widths.{widths_in}
-use Rattle.prog_text.specs.Widths.{AreWidths}
 
 -- no two are equal
 abbrev pub all_differ : List (List ℕ) → Bool
@@ -47,11 +46,6 @@ abbrev pub traced_apart : TraceNames → Bool
 traced_apart names = are_apart names.prog.now names.script.now names.trace.now names.image.now
     names.out.now
 
--- the command on its files
-abbrev pub trace_on : List ℕ → TraceNames → Option Command
-trace_on verb names =
-    if bytes_eq verb (codes "trace") && traced_apart names then Some (Trace names) else None
-
 -- and the three files of a replay
 abbrev pub replay_apart : List ℕ → List ℕ → List ℕ → Bool
 replay_apart trace image out = not (bytes_eq trace image) && not (bytes_eq trace out)
@@ -62,20 +56,6 @@ guard_apart names =
     let inputs = λ (last : List ℕ). all_differ (names.ops.now ∷ names.prog.now ∷ names.script.now
     ∷ names.flips.now ∷ last ∷ []) in
     inputs names.image.now && inputs names.out.now
-
--- the command on six files
-abbrev pub guard_on : List ℕ → GuardNames → Option Command
-guard_on verb names =
-    if bytes_eq verb (codes "guard") && guard_apart names then Some (Guard names) else None
-
--- the command on two files that are apart
-abbrev pub command_on_two : List ℕ → Bor (List ℕ) → Bor (List ℕ) → Option Command
-command_on_two verb first second =
-    if bytes_eq verb (codes "compile") then Some (Compile (record { ops = first; prog = second }))
-    else if bytes_eq verb (codes "migrate")
-    then Some (Migrate (record { old = first; new = second }))
-    else if bytes_eq verb (codes "scan") then Some (Scan (record { query = first; image = second }))
-    else None
 
 -- `cost` at widths
 abbrev pub cost_at : Bor (List ℕ) → List ℕ → Command
@@ -91,10 +71,9 @@ abbrev pub verify_at : (ops prog : Bor (List ℕ)) → List ℕ → Command
 verify_at ops prog widths =
     Verify (record { ops = ops; prog = prog; widths = record { items = widths } })
 
--- `verify`, where its files are apart and its last word lists widths
+-- `verify`, where its last word lists widths
 abbrev pub verify_on : (ops prog : Bor (List ℕ)) → List ℕ → Option Command
-verify_on ops prog word = if bytes_eq ops.now prog.now then None
-    else option_map (verify_at ops prog) (widths_in word)
+verify_on ops prog word = option_map (verify_at ops prog) (widths_in word)
 
 -- a word that writes a width
 abbrev pub is_width : List ℕ → Bool
@@ -105,12 +84,11 @@ is_width word =
 abbrev pub is_count : List ℕ → Bool
 is_count word = is_number word && nat_lt (value_of word) (2 ^ 64)
 
--- `optimise`, where its files are apart, and its other words are a width, a seed and a count
+-- `optimise`, where its other words are a width, a seed and a count
 abbrev pub optimise_on : (ops prog : Bor (List ℕ)) → List ℕ → Bor (List ℕ) → (seed work : List ℕ)
     → Option Command
 optimise_on ops prog width new seed work =
-    if all_differ (ops.now ∷ prog.now ∷ new.now ∷ [])
-    && (is_width width && (is_count seed && is_count work))
+    if is_width width && (is_count seed && is_count work)
     then Some (Optimise (record {
       ops = ops;
       prog = prog;
@@ -146,11 +124,22 @@ abbrev pub command_on_one : List ℕ → Bor (List ℕ) → Option Command
 command_on_one verb word = or_account (account_named verb) word
     (if bytes_eq verb (codes "soak") then soak_on word.now else None)
 
+-- the command of two words after its own
+abbrev pub command_on_two : List ℕ → Bor (List ℕ) → Bor (List ℕ) → Option Command
+command_on_two verb first second =
+    if bytes_eq verb (codes "cost") then cost_on first second.now
+    else if bytes_eq verb (codes "compile")
+    then Some (Compile (record { ops = first; prog = second }))
+    else if bytes_eq verb (codes "migrate")
+    then Some (Migrate (record { old = first; new = second }))
+    else if bytes_eq verb (codes "scan") then Some (Scan (record { query = first; image = second }))
+    else None
+
 -- the command of three words after its own
 abbrev pub command_on_three : List ℕ → (first second third : Bor (List ℕ)) → Option Command
 command_on_three verb first second third =
     if bytes_eq verb (codes "verify") then verify_on first second third.now
-    else if bytes_eq verb (codes "replay") && replay_apart first.now second.now third.now
+    else if bytes_eq verb (codes "replay")
     then Some (Replay (record { trace = first; image = second; out = third })) else None
 
 -- the command of four words after its own
@@ -158,7 +147,6 @@ abbrev pub command_on_four : List ℕ → (first second third fourth : Bor (List
 command_on_four verb first second third fourth =
     if bytes_eq verb (codes "init") then init_on first.now second.now third.now fourth
     else if bytes_eq verb (codes "exec")
-    && inputs_apart first.now second.now third.now fourth.now
     then Some (Exec (record { prog = first; script = second; image = third; out = fourth }))
     else if bytes_eq verb (codes "optimise")
     then optimise_on first second third.now fourth (codes "1") (codes "50000") else None
@@ -170,16 +158,11 @@ command_on_five verb first second third fourth fifth =
     if bytes_eq verb (codes "optimise")
     then optimise_on first second third.now fourth fifth.now (codes "50000")
     else if bytes_eq verb (codes "run")
-    && are_apart first.now second.now third.now fourth.now fifth.now
     then Some (Run (record
     { ops = first; prog = second; script = third; image = fourth; out = fifth }))
-    else trace_on verb (record {
-      prog = first;
-      script = second;
-      image = third;
-      out = fourth;
-      trace = fifth;
-    })
+    else if bytes_eq verb (codes "trace")
+    then Some (Trace (record
+    { prog = first; script = second; image = third; out = fourth; trace = fifth })) else None
 
 -- the command of six words after its own
 abbrev pub command_on_six : List ℕ → (first second third fourth fifth sixth : Bor (List ℕ))
@@ -187,59 +170,31 @@ abbrev pub command_on_six : List ℕ → (first second third fourth fifth sixth 
 command_on_six verb first second third fourth fifth sixth =
     if bytes_eq verb (codes "optimise")
     then optimise_on first second third.now fourth fifth.now sixth.now
-    else guard_on verb (record {
+    else if bytes_eq verb (codes "guard") then Some (Guard (record {
       ops = first;
       prog = second;
       script = third;
       image = fourth;
       flips = fifth;
       out = sixth;
-    })
+    })) else None
 
--- the command that the words are: `run OPS PROG SCRIPT IMAGE OUT`, `exec PROG SCRIPT IMAGE OUT`,
+-- the command that the words name, whether its files are apart or not:
+-- `run OPS PROG SCRIPT IMAGE OUT`, `exec PROG SCRIPT IMAGE OUT`,
 -- `compile OPS PROG`, `show OPS`, `migrate OLD NEW`, `cost PROG N`, `list PROG`,
 -- `init BANKS ROWS WORDS OUT`, `soak SEED`, `scan QUERY IMAGE`,
 -- `trace PROG SCRIPT IMAGE OUT TRACE`, `replay TRACE IMAGE OUT`,
 -- `guard OPS PROG SCRIPT IMAGE FLIPS OUT`, `verify OPS PROG N` or
 -- `optimise OPS PROG N NEW [SEED] [WORK]`
-abbrev pub command_of : List (Bor (List ℕ)) → Option Command
-command_of (verb ∷ first ∷ second ∷ third ∷ fourth ∷ fifth ∷ sixth ∷ []) =
+abbrev pub command_named : List (Bor (List ℕ)) → Option Command
+command_named (verb ∷ first ∷ second ∷ third ∷ fourth ∷ fifth ∷ sixth ∷ []) =
     command_on_six verb.now first second third fourth fifth sixth
-command_of (verb ∷ first ∷ second ∷ third ∷ fourth ∷ fifth ∷ []) =
+command_named (verb ∷ first ∷ second ∷ third ∷ fourth ∷ fifth ∷ []) =
     command_on_five verb.now first second third fourth fifth
-command_of (verb ∷ first ∷ second ∷ third ∷ fourth ∷ []) =
+command_named (verb ∷ first ∷ second ∷ third ∷ fourth ∷ []) =
     command_on_four verb.now first second third fourth
-command_of (verb ∷ first ∷ second ∷ third ∷ []) =
+command_named (verb ∷ first ∷ second ∷ third ∷ []) =
     command_on_three verb.now first second third
-command_of (verb ∷ first ∷ second ∷ []) =
-    if bytes_eq verb.now (codes "cost") then cost_on first second.now
-    else if bytes_eq first.now second.now then None else command_on_two verb.now first second
-command_of (verb ∷ word ∷ []) = command_on_one verb.now word
-command_of _ = None
-
--- the files of a command are apart
-abbrev pub IsApart : Command → Type 0
-IsApart (Run names) = are_apart names.ops.now names.prog.now names.script.now names.image.now
-    names.out.now ≡ true
-IsApart (Exec names) = inputs_apart names.prog.now names.script.now names.image.now names.out.now
-    ≡ true
-IsApart (Compile names) = bytes_eq names.ops.now names.prog.now ≡ false
-IsApart (AccountOf names) = Unit {0}
-IsApart (Migrate names) = bytes_eq names.old.now names.new.now ≡ false
-IsApart (Init names) = Unit {0}
-IsApart (Soak seed) = Unit {0}
-IsApart (Scan names) = bytes_eq names.query.now names.image.now ≡ false
-IsApart (Trace names) = traced_apart names ≡ true
-IsApart (Replay names) = replay_apart names.trace.now names.image.now names.out.now ≡ true
-IsApart (Guard names) = guard_apart names ≡ true
-IsApart (Verify names) = bytes_eq names.ops.now names.prog.now ≡ false
-IsApart (Optimise names) = all_differ (names.ops.now ∷ names.prog.now ∷ names.new.now ∷ []) ≡ true
-
--- the numbers of a command are widths, a chip's, or a seed
-abbrev pub HasNumbers : Command → Type 0
-HasNumbers (AccountOf names) = HasWidths names.account
-HasNumbers (Init names) = is_geometry names.geometry ≡ true
-HasNumbers (Soak seed) = seed < 2 ^ 64
-HasNumbers (Verify names) = AreWidths names.widths.items
-HasNumbers (Optimise names) = (0 < names.width) × (names.width ≤ WIDTH_MAX)
-HasNumbers _ = Unit {0}
+command_named (verb ∷ first ∷ second ∷ []) = command_on_two verb.now first second
+command_named (verb ∷ word ∷ []) = command_on_one verb.now word
+command_named _ = None

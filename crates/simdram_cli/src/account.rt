@@ -1,6 +1,6 @@
 //! The commands that load one file and put a text about it: `show`, `list` and `cost`.
 
-ghost use Rattle.std.specs.Prelude.{◌≡◌, IfOk, IfErr};
+ghost use Rattle.std.specs.Prelude.{◌≡◌, IfOk, IfErr, IfSome};
 ghost use Rattle.dram_model.specs.View.{ChipView};
 ghost use Rattle.op_print.specs.Canonical.{canonical_text};
 ghost use Rattle.cli_model.specs.World.{world};
@@ -11,6 +11,7 @@ ghost use Rattle.simdram_cli.specs.Accounts.{ComesTo, HasWidths, IsAsked, accoun
 ghost use Rattle.simdram_cli.specs.Accounts.{StopsBefore};
 ghost use Rattle.simdram_cli.specs.Accounts.{account_plan, program_plan, program_text, ops_plan};
 
+use crate::completion::Completion;
 use crate::load::{load, load_ops};
 use crate::stop::Stop;
 use crate::widths::Widths;
@@ -38,7 +39,8 @@ pub enum Account {
 
 /// The account that a word asks for, of the command on one file.
 pub(crate) fn account_named(verb: &str) -> Option<Account>
-    ensures { result ≡ account_named verb.now }
+    ensures value { result ≡ account_named verb.now }
+    ensures widths { IfSome result HasWidths }
 {
     if verb == "show" {
         Some(Account::Canonical)
@@ -132,7 +134,7 @@ pub(crate) fn give_account<'a, F: Folder, S: Sink>(
     files: &mut F,
     out: &mut S,
     alloc: Global,
-) -> Result<u64, Stop<'a>>
+) -> Result<Completion, Stop<'a>>
     requires { HasWidths account.now }
     ensures { (chip : ChipView) → Runs (account_plan name.now account.now)
         (world (F.view files.old) (S.view out.old) chip)
@@ -142,5 +144,5 @@ pub(crate) fn give_account<'a, F: Folder, S: Sink>(
     if out.put(&text).is_err() {
         return Err(Stop::PutFailed);
     }
-    Ok(0)
+    Ok(Completion::AllDone)
 }

@@ -6,6 +6,7 @@ ghost use Rattle.cli_model.specs.Runs.{Runs};
 ghost use Rattle.simdram_cli.specs.Compile.{compile_plan};
 ghost use Rattle.simdram_cli.specs.Plans.{said_of};
 
+use crate::completion::Completion;
 use crate::counted::put_counted;
 use crate::run::take_program;
 use crate::stop::Stop;
@@ -19,7 +20,7 @@ pub(crate) fn compile<'a, F: Folder, S: Sink>(
     files: &mut F,
     out: &mut S,
     alloc: Global,
-) -> Result<u64, Stop<'a>>
+) -> Result<Completion, Stop<'a>>
     ensures { (chip : ChipView) → Runs (compile_plan names.now)
         (world (F.view files.old) (S.view out.old) chip)
         (world (F.view files.new) (S.view out.new) chip) (said_of result) }
@@ -28,5 +29,5 @@ pub(crate) fn compile<'a, F: Folder, S: Sink>(
     if put_counted(b"compiled ", program.entries.len(), out).is_err() {
         return Err(Stop::PutFailed);
     }
-    Ok(0)
+    Ok(Completion::AllDone)
 }

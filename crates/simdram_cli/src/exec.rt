@@ -6,6 +6,7 @@ ghost use Rattle.cli_model.specs.Runs.{Runs};
 ghost use Rattle.simdram_cli.specs.Exec.{exec_plan};
 ghost use Rattle.simdram_cli.specs.Plans.{said_of};
 
+use crate::completion::Completion;
 use crate::job::{JobNames, do_job};
 use crate::load::load;
 use crate::stop::Stop;
@@ -15,14 +16,14 @@ use host_edge::{Folder, Sink};
 use std::alloc::Global;
 use uprog_bin::ProgView;
 
-/// Does SCRIPT on IMAGE with the program of PROG; answers how many instructions were refused.
+/// Does SCRIPT on IMAGE with the program of PROG.
 pub(crate) fn exec<'a, F: Folder, S: Sink, D: Dram>(
     names: &ExecNames<'a>,
     files: &mut F,
     out: &mut S,
     chip: &mut D,
     alloc: Global,
-) -> Result<u64, Stop<'a>>
+) -> Result<Completion, Stop<'a>>
     ensures borrow { D.borrow chip.new ≡ D.borrow chip.old }
     ensures runs { Runs (exec_plan names.now)
         (world (F.view files.old) (S.view out.old) (D.view chip.old))

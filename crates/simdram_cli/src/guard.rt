@@ -1,6 +1,6 @@
 //! The command `guard`.
 
-ghost use Rattle.std.specs.Prelude.{◌≡◌, ◌+◌, ◌*◌, ◌-◌, ◌<◌, ◌≤◌, ◌^◌, ◌++◌, ◌∷◌, [], length, map};
+ghost use Rattle.std.specs.Prelude.{◌≡◌, ◌+◌, ◌*◌, ◌-◌, ◌<◌, ◌≤◌, ◌^◌, ◌∷◌, [], length, map};
 ghost use Rattle.std.specs.Prelude.{None, IfOk, IfErr, OnOk, false, true};
 ghost use Rattle.std.specs.List.{AllByRecursion};
 ghost use Rattle.host_edge.specs.Views.{FolderView};
@@ -33,6 +33,7 @@ ghost use Rattle.simdram_cli.specs.Job.{reading};
 ghost use Rattle.cli_model.specs.Reads.{NotRead, ReadAs};
 ghost use Rattle.simdram_cli.specs.Stops.{end_of, reason_of};
 
+use crate::completion::{Completion, completed};
 use crate::job::image_stop;
 use crate::lines::{Line, add, add_number};
 use crate::load::{load, load_script};
@@ -255,7 +256,7 @@ fn work_on_flips<'a, F: Folder, S: Sink, D: Dram>(
     out: &mut S,
     chip: &mut D,
     alloc: Global,
-) -> Result<u64, Stop<'a>>
+) -> Result<Completion, Stop<'a>>
     requires lies { LiesOn image.geometry image.table }
     requires rows { length image.rows.now ≡ rows_size image.geometry }
     requires is { IsImage image.geometry image.table.pairs
@@ -280,9 +281,9 @@ fn work_on_flips<'a, F: Folder, S: Sink, D: Dram>(
         script,
         flips: &flips,
     };
-    work_guarded(
+    completed(work_guarded(
         prog, plan, image, &mut stage, names.out, files, out, chip, alloc,
-    )
+    ))
 }
 
 /// Loads IMAGE, whose objects stand in three copies, and FLIPS, and does the script on it.
@@ -294,7 +295,7 @@ fn guard_image<'a, F: Folder, S: Sink, D: Dram>(
     out: &mut S,
     chip: &mut D,
     alloc: Global,
-) -> Result<u64, Stop<'a>>
+) -> Result<Completion, Stop<'a>>
     requires plain { AllByRecursion IsPlain (map view_of script.now) }
     requires short { AllByRecursion (λ instr. has_long_name instr ≡ false)
         (map view_of script.now) }
@@ -315,7 +316,7 @@ fn guard_image<'a, F: Folder, S: Sink, D: Dram>(
     }
 }
 
-/// Does SCRIPT on IMAGE with FLIPS and a program; answers how many instructions were refused.
+/// Does SCRIPT on IMAGE with FLIPS and a program.
 fn guard_job<'a, F: Folder, S: Sink, D: Dram>(
     prog: ProgView<'_>,
     names: &GuardNames<'a>,
@@ -323,7 +324,7 @@ fn guard_job<'a, F: Folder, S: Sink, D: Dram>(
     out: &mut S,
     chip: &mut D,
     alloc: Global,
-) -> Result<u64, Stop<'a>>
+) -> Result<Completion, Stop<'a>>
     ensures borrow { D.borrow chip.new ≡ D.borrow chip.old }
     ensures runs { Runs (guard_job_plan names.now prog.entry.programs)
         (world (F.view files.old) (S.view out.old) (D.view chip.old))
@@ -334,14 +335,14 @@ fn guard_job<'a, F: Folder, S: Sink, D: Dram>(
 }
 
 /// Compiles OPS, stores PROG, and does SCRIPT with FLIPS on IMAGE, whose objects stand in three
-/// copies, with the program that those bytes hold; answers how many instructions were refused.
+/// copies, with the program that those bytes hold.
 pub(crate) fn guard<'a, F: Folder, S: Sink, D: Dram>(
     names: &GuardNames<'a>,
     files: &mut F,
     out: &mut S,
     chip: &mut D,
     alloc: Global,
-) -> Result<u64, Stop<'a>>
+) -> Result<Completion, Stop<'a>>
     ensures borrow { D.borrow chip.new ≡ D.borrow chip.old }
     ensures runs { Runs (guard_plan names.now)
         (world (F.view files.old) (S.view out.old) (D.view chip.old))

@@ -9,6 +9,7 @@ ghost use Rattle.cli_model.specs.Runs.{Runs};
 ghost use Rattle.simdram_cli.specs.Init.{init_plan};
 ghost use Rattle.simdram_cli.specs.Plans.{said_of};
 
+use crate::completion::Completion;
 use crate::stop::Stop;
 use crate::words::InitNames;
 use host_edge::Folder;
@@ -20,7 +21,7 @@ pub(crate) fn init<'a, F: Folder>(
     names: &InitNames<'a>,
     files: &mut F,
     alloc: Global,
-) -> Result<u64, Stop<'a>>
+) -> Result<Completion, Stop<'a>>
     requires { is_geometry names.now.geometry ≡ true }
     ensures { (sink : SinkView) (chip : ChipView) → Runs (init_plan names.now)
         (world (F.view files.old) sink chip) (world (F.view files.new) sink chip)
@@ -32,5 +33,5 @@ pub(crate) fn init<'a, F: Folder>(
     if files.store(names.out, &file).is_err() {
         return Err(Stop::CannotWrite(names.out));
     }
-    Ok(0)
+    Ok(Completion::AllDone)
 }

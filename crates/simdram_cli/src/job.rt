@@ -1,6 +1,6 @@
 //! A job: a script is done on an image with a program.
 
-ghost use Rattle.std.specs.Prelude.{◌≡◌, ◌+◌, ◌≤◌, length, map, IfOk};
+ghost use Rattle.std.specs.Prelude.{◌≡◌, ◌+◌, ◌≤◌, length, map};
 ghost use Rattle.std.specs.List.{AllByRecursion};
 ghost use Rattle.bbop_isa.specs.Forms.{view_of};
 ghost use Rattle.machine_model.specs.Agrees.{IsPlain};
@@ -9,6 +9,7 @@ ghost use Rattle.cli_model.specs.Runs.{Runs};
 ghost use Rattle.simdram_cli.specs.Plans.{image_plan, job_plan, said_of};
 ghost use Rattle.simdram_cli.specs.Stops.{image_reason, reason_of};
 
+use crate::completion::{Completion, completed};
 use crate::load::{load, load_script};
 use crate::perform::perform;
 use crate::stop::Stop;
@@ -47,7 +48,7 @@ fn work_on_image<'a, F: Folder, S: Sink, D: Dram>(
     out: &mut S,
     chip: &mut D,
     alloc: Global,
-) -> Result<u64, Stop<'a>>
+) -> Result<Completion, Stop<'a>>
     requires plain { AllByRecursion IsPlain (map view_of script.now) }
     requires few { length script.now ≤ SCRIPT_MAX + 1 }
     ensures borrow { D.borrow chip.new ≡ D.borrow chip.old }
@@ -60,10 +61,10 @@ fn work_on_image<'a, F: Folder, S: Sink, D: Dram>(
         Ok(image) => image,
         Err(no) => return Err(image_stop(no)),
     };
-    perform(prog, script, image, names.out, files, out, chip, alloc)
+    completed(perform(prog, script, image, names.out, files, out, chip, alloc))
 }
 
-/// Does SCRIPT on IMAGE with a program; answers how many instructions were refused.
+/// Does SCRIPT on IMAGE with a program.
 pub(crate) fn do_job<'a, F: Folder, S: Sink, D: Dram>(
     prog: ProgView<'_>,
     names: &JobNames<'a>,
@@ -71,7 +72,7 @@ pub(crate) fn do_job<'a, F: Folder, S: Sink, D: Dram>(
     out: &mut S,
     chip: &mut D,
     alloc: Global,
-) -> Result<u64, Stop<'a>>
+) -> Result<Completion, Stop<'a>>
     ensures borrow { D.borrow chip.new ≡ D.borrow chip.old }
     ensures runs { Runs (job_plan names.now prog.entry.programs)
         (world (F.view files.old) (S.view out.old) (D.view chip.old))

@@ -3,6 +3,7 @@
 
 mod account;
 mod compile;
+mod completion;
 mod counted;
 mod exec;
 mod guard;

@@ -1,6 +1,6 @@
 //! Files are loaded and read.
 
-ghost use Rattle.std.specs.Prelude.{◌≡◌, ◌<◌, ◌≤◌, ◌+◌, ◌^◌, length, map, IfOk, IfErr};
+ghost use Rattle.std.specs.Prelude.{◌≡◌, ◌<◌, ◌≤◌, ◌+◌, length, map, IfOk, IfErr};
 ghost use Rattle.std.specs.List.{AllByRecursion};
 ghost use Rattle.bbop_isa.specs.Forms.{view_of};
 ghost use Rattle.op_text.specs.Language.{operations};
@@ -28,6 +28,7 @@ pub(crate) fn load<'a, F: Folder>(
 ) -> Result<Vec<u8>, Stop<'a>>
     ensures loaded { IfOk result (λ bytes. LoadedAs name.now limit bytes.items (F.view files.old)
         (F.view files.new)) }
+    ensures kept { (F.view files.new).holds ≡ (F.view files.old).holds }
     ensures within { IfOk result (λ bytes. length bytes.items ≤ limit) }
     ensures failed { IfErr result (λ stop. NotLoaded name.now limit (reason_of stop)
         (F.view files.old) (F.view files.new)) }

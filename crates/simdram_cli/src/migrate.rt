@@ -6,6 +6,7 @@ ghost use Rattle.cli_model.specs.Runs.{Runs};
 ghost use Rattle.simdram_cli.specs.Migrate.{migrate_plan};
 ghost use Rattle.simdram_cli.specs.Plans.{said_of};
 
+use crate::completion::Completion;
 use crate::counted::put_counted;
 use crate::load::load;
 use crate::stop::Stop;
@@ -20,7 +21,7 @@ pub(crate) fn migrate<'a, F: Folder, S: Sink>(
     files: &mut F,
     out: &mut S,
     alloc: Global,
-) -> Result<u64, Stop<'a>>
+) -> Result<Completion, Stop<'a>>
     ensures { (chip : ChipView) → Runs (migrate_plan names.now)
         (world (F.view files.old) (S.view out.old) chip)
         (world (F.view files.new) (S.view out.new) chip) (said_of result) }
@@ -36,5 +37,5 @@ pub(crate) fn migrate<'a, F: Folder, S: Sink>(
     if put_counted(b"migrated ", usize::from(entries), out).is_err() {
         return Err(Stop::PutFailed);
     }
-    Ok(0)
+    Ok(Completion::AllDone)
 }

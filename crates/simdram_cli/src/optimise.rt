@@ -11,6 +11,7 @@ ghost use Rattle.cli_model.specs.Runs.{Runs};
 ghost use Rattle.simdram_cli.specs.Optimise.{IsOptimised, optimise_plan};
 ghost use Rattle.simdram_cli.specs.Plans.{said_of};
 
+use crate::completion::Completion;
 use crate::load::{load, load_ops};
 use crate::stop::Stop;
 use crate::words::{OptimiseNames, PROG_MAX};
@@ -64,7 +65,7 @@ pub(crate) fn optimise<'a, F: Folder, S: Sink>(
     files: &mut F,
     out: &mut S,
     alloc: Global,
-) -> Result<u64, Stop<'a>>
+) -> Result<Completion, Stop<'a>>
     requires some { 0 < names.now.width }
     requires narrow { names.now.width ≤ WIDTH_MAX }
     ensures { (chip : ChipView) → Runs (optimise_plan names.now)
@@ -91,5 +92,5 @@ pub(crate) fn optimise<'a, F: Folder, S: Sink>(
     if out.put(&text).is_err() {
         return Err(Stop::PutFailed);
     }
-    Ok(0)
+    Ok(Completion::AllDone)
 }

@@ -1,6 +1,6 @@
 //! The command `replay`.
 
-ghost use Rattle.std.specs.Prelude.{◌≡◌, ◌∷◌, ◌++◌, [], IfOk, OnOk, length};
+ghost use Rattle.std.specs.Prelude.{◌≡◌, ◌∷◌, [], IfOk, OnOk, length};
 ghost use Rattle.dram_model.specs.View.{ChipView, HasBegun};
 ghost use Rattle.host_edge.specs.Views.{FolderView, SinkView};
 ghost use Rattle.object_alloc.specs.Exact.{found_in};
@@ -17,6 +17,7 @@ ghost use Rattle.simdram_cli.specs.Replay.{replay_image_plan, replay_line, repla
 ghost use Rattle.simdram_cli.specs.Replay.{replay_steps};
 ghost use Rattle.simdram_cli.specs.Stops.{end_of, reason_of, trace_reason};
 
+use crate::completion::Completion;
 use crate::job::image_stop;
 use crate::lines::{Line, add, add_number};
 use crate::load::load;
@@ -124,7 +125,7 @@ fn replay_on<'a, F: Folder, S: Sink, D: Dram>(
     out: &mut S,
     chip: &mut D,
     alloc: Global,
-) -> Result<u64, Stop<'a>>
+) -> Result<Completion, Stop<'a>>
     requires lies { LiesOn image.geometry image.table }
     requires rows { length image.rows.now ≡ rows_size image.geometry }
     requires same { image.geometry ≡ trace.now.geometry }
@@ -136,7 +137,7 @@ fn replay_on<'a, F: Folder, S: Sink, D: Dram>(
     let prog = open_own(NO_PROGRAM);
     let machine = replay_rows(prog, trace, image, chip, alloc)?;
     finish(machine.file(), chip.tally(), name, files, out)?;
-    Ok(0)
+    Ok(Completion::AllDone)
 }
 
 /// Loads IMAGE, and does a trace's events on it where it has the trace's geometry.
@@ -147,7 +148,7 @@ fn replay_on_image<'a, F: Folder, S: Sink, D: Dram>(
     out: &mut S,
     chip: &mut D,
     alloc: Global,
-) -> Result<u64, Stop<'a>>
+) -> Result<Completion, Stop<'a>>
     ensures borrow { D.borrow chip.new ≡ D.borrow chip.old }
     ensures runs { Runs (replay_image_plan names.now trace.now)
         (world (F.view files.old) (S.view out.old) (D.view chip.old))
@@ -172,7 +173,7 @@ pub(crate) fn replay<'a, F: Folder, S: Sink, D: Dram>(
     out: &mut S,
     chip: &mut D,
     alloc: Global,
-) -> Result<u64, Stop<'a>>
+) -> Result<Completion, Stop<'a>>
     ensures borrow { D.borrow chip.new ≡ D.borrow chip.old }
     ensures runs { Runs (replay_plan names.now)
         (world (F.view files.old) (S.view out.old) (D.view chip.old))

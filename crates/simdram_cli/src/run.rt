@@ -19,6 +19,7 @@ ghost use Rattle.simdram_cli.specs.Plans.{said_of};
 ghost use Rattle.simdram_cli.specs.Run.{run_plan};
 ghost use Rattle.simdram_cli.specs.Stops.{reason_of};
 
+use crate::completion::Completion;
 use crate::job::{JobNames, do_job};
 use crate::load::load_ops;
 use crate::stop::Stop;
@@ -113,15 +114,14 @@ pub(crate) fn open_own(file: &[u8]) -> ProgView<'_>
     }
 }
 
-/// Compiles OPS, stores PROG, and does SCRIPT on IMAGE with the program that those bytes hold;
-/// answers how many instructions were refused.
+/// Compiles OPS, stores PROG, and does SCRIPT on IMAGE with the program that those bytes hold.
 pub(crate) fn run<'a, F: Folder, S: Sink, D: Dram>(
     names: &RunNames<'a>,
     files: &mut F,
     out: &mut S,
     chip: &mut D,
     alloc: Global,
-) -> Result<u64, Stop<'a>>
+) -> Result<Completion, Stop<'a>>
     ensures borrow { D.borrow chip.new ≡ D.borrow chip.old }
     ensures runs { Runs (run_plan names.now)
         (world (F.view files.old) (S.view out.old) (D.view chip.old))

@@ -1,6 +1,6 @@
 //! The command `scan`.
 
-ghost use Rattle.std.specs.Prelude.{◌≡◌, ◌+◌, ◌*◌, ◌≤◌, ◌++◌, decimal, length, IfOk, IfErr};
+ghost use Rattle.std.specs.Prelude.{◌≡◌, ◌*◌, length, IfOk, IfErr};
 ghost use Rattle.dram_model.specs.View.{ChipView};
 ghost use Rattle.host_edge.specs.Views.{FolderView};
 ghost use Rattle.object_alloc.specs.Exact.{found_in};
@@ -19,6 +19,7 @@ ghost use Rattle.simdram_cli.specs.Scan.{AnswerGoes, DoesScans, IsScanFile, Quer
 ghost use Rattle.simdram_cli.specs.Scan.{count_line, scan_image_plan, scan_plan};
 ghost use Rattle.simdram_cli.specs.Stops.{reason_of};
 
+use crate::completion::Completion;
 use crate::job::image_stop;
 use crate::lines::{Line, add, add_number};
 use crate::load::load;
@@ -38,6 +39,7 @@ use uprog_code::Counts;
 
 /// Loads QUERY, with its query.
 fn load_query<'a, F: Folder>(name: &'a str, files: &mut F, alloc: Global) -> Result<Query, Stop<'a>>
+    ensures kept { (F.view files.new).holds ≡ (F.view files.old).holds }
     ensures read { IfOk result (λ query. QueryRead name.now (nodes_in query) (F.view files.old)
         (F.view files.new)) }
     ensures not_read { IfErr result (λ stop. NotRead query_in name.now QUERY_MAX (reason_of stop)
@@ -110,7 +112,7 @@ fn count_line(found: u32, of: u32, counts: Counts) -> Line
 }
 
 /// Puts how many elements were found. A refusal is left to be reported.
-fn put_answer<'a, S: Sink>(reply: ScanReply, out: &mut S) -> Result<u64, Stop<'a>>
+fn put_answer<'a, S: Sink>(reply: ScanReply, out: &mut S) -> Result<Completion, Stop<'a>>
     ensures { (files : FolderView) (chip : ChipView)
         → Runs (answer_plan (λ view. Unit {0}) (answer_of reply))
         (world files (S.view out.old) chip) (world files (S.view out.new) chip)
@@ -122,7 +124,7 @@ fn put_answer<'a, S: Sink>(reply: ScanReply, out: &mut S) -> Result<u64, Stop<'a
             if out.put(line.as_slice()).is_err() {
                 return Err(Stop::PutFailed);
             }
-            Ok(0)
+            Ok(Completion::AllDone)
         }
         ScanReply::Refused(why, k) => Err(Stop::ScanRefused(why, k)),
     }
@@ -136,9 +138,10 @@ fn scan_image<'a, F: Folder, S: Sink, D: Dram>(
     out: &mut S,
     chip: &mut D,
     alloc: Global,
-) -> Result<u64, Stop<'a>>
+) -> Result<Completion, Stop<'a>>
     requires query { IsScan (nodes_in query.now) }
     ensures borrow { D.borrow chip.new ≡ D.borrow chip.old }
+    ensures kept { (F.view files.new).holds ≡ (F.view files.old).holds }
     ensures runs { (t : model.Query) → IsNodesOf t (nodes_in query.now)
         → Runs (scan_image_plan name.now t)
         (world (F.view files.old) (S.view out.old) (D.view chip.old))
@@ -163,8 +166,9 @@ pub(crate) fn scan<'a, F: Folder, S: Sink, D: Dram>(
     out: &mut S,
     chip: &mut D,
     alloc: Global,
-) -> Result<u64, Stop<'a>>
+) -> Result<Completion, Stop<'a>>
     ensures borrow { D.borrow chip.new ≡ D.borrow chip.old }
+    ensures kept { (F.view files.new).holds ≡ (F.view files.old).holds }
     ensures runs { Runs (scan_plan names.now)
         (world (F.view files.old) (S.view out.old) (D.view chip.old))
         (world (F.view files.new) (S.view out.new) (D.view chip.new)) (said_of result) }

@@ -7,6 +7,7 @@ ghost use Rattle.cli_model.specs.Runs.{Runs};
 ghost use Rattle.simdram_cli.specs.Plans.{said_of};
 ghost use Rattle.simdram_cli.specs.Soak.{soak_plan};
 
+use crate::completion::Completion;
 use crate::stop::Stop;
 use dram_model::Dram;
 use host_edge::Sink;
@@ -19,14 +20,14 @@ pub(crate) fn soak<'a, S: Sink, D: Dram>(
     out: &mut S,
     chip: &mut D,
     alloc: Global,
-) -> Result<u64, Stop<'a>>
+) -> Result<Completion, Stop<'a>>
     ensures borrow { D.borrow chip.new ≡ D.borrow chip.old }
     ensures went { (files : FolderView) → Runs (soak_plan seed)
         (world files (S.view out.old) (D.view chip.old))
         (world files (S.view out.new) (D.view chip.new)) (said_of result) }
 {
     match soak_job::soak(seed, out, chip, alloc) {
-        Ok(()) => Ok(0),
+        Ok(()) => Ok(Completion::AllDone),
         Err(SoakError::NoMemory) => Err(Stop::NoMemory),
         Err(SoakError::ChipFailed) => Err(Stop::ChipFailed),
         Err(SoakError::PutFailed) => Err(Stop::PutFailed),

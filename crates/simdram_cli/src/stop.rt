@@ -1,6 +1,6 @@
 //! Why a command stops, its exit status and its last line.
 
-ghost use Rattle.std.specs.Prelude.{OnOk, OnErr, ◌≡◌, ◌≤◌, ◌++◌, codes, decimal};
+ghost use Rattle.std.specs.Prelude.{OnOk, OnErr, ◌≡◌, ◌≤◌, ◌++◌, codes};
 ghost use Rattle.host_edge.specs.Views.{Known, AppendsPart};
 ghost use Rattle.faults.specs.Counts.{Rose};
 ghost use Rattle.cli_model.specs.Status.{reason_status, reason_line};

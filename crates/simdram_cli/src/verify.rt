@@ -7,8 +7,10 @@ ghost use Rattle.prog_text.specs.Widths.{AreWidths};
 ghost use Rattle.dram_model.specs.View.{ChipView};
 ghost use Rattle.cli_model.specs.World.{world};
 ghost use Rattle.cli_model.specs.Runs.{Runs};
-ghost use Rattle.simdram_cli.specs.Verify.{IsReport, verify_plan, verify_said};
+ghost use Rattle.simdram_cli.specs.Plans.{said_of};
+ghost use Rattle.simdram_cli.specs.Verify.{IsReport, verify_plan};
 
+use crate::completion::Completion;
 use crate::load::{load, load_ops};
 use crate::stop::Stop;
 use crate::words::{PROG_MAX, VerifyNames};
@@ -40,17 +42,17 @@ fn verified(
     Ok((text, status(found.as_slice())))
 }
 
-/// Loads OPS and PROG, and puts what is found of PROG's entries; answers its status.
+/// Loads OPS and PROG, and puts what is found of PROG's entries.
 pub(crate) fn verify<'a, F: Folder, S: Sink>(
     names: &VerifyNames<'a>,
     files: &mut F,
     out: &mut S,
     alloc: Global,
-) -> Result<u8, Stop<'a>>
+) -> Result<Completion, Stop<'a>>
     requires { AreWidths names.now.widths.items }
     ensures { (chip : ChipView) → Runs (verify_plan names.now)
         (world (F.view files.old) (S.view out.old) chip)
-        (world (F.view files.new) (S.view out.new) chip) (verify_said result) }
+        (world (F.view files.new) (S.view out.new) chip) (said_of result) }
 {
     let ops = load_ops(names.ops, files, alloc)?;
     let bytes = load(names.prog, PROG_MAX, files, alloc)?;
@@ -64,5 +66,5 @@ pub(crate) fn verify<'a, F: Folder, S: Sink>(
     if out.put(&text).is_err() {
         return Err(Stop::PutFailed);
     }
-    Ok(status)
+    Ok(Completion::Found(status))
 }

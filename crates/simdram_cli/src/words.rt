@@ -1,16 +1,14 @@
 //! The words of a command.
 
-ghost use Rattle.std.specs.Prelude.{◌≡◌, ◌^◌, [], ◌∷◌, true};
+ghost use Rattle.std.specs.Prelude.{◌≡◌, ◌<◌, ◌≤◌, ◌^◌, [], ◌∷◌, true, IfSome};
 ghost use Rattle.std.specs.Option.{SomeIff};
+ghost use Rattle.simdram_cli.specs.Commands.{HasNumbers, command_of, facts};
 ghost use Rattle.simdram_cli.specs.Numbers.{value_of};
-ghost use Rattle.simdram_cli.specs.Words.{all_differ, are_apart, command_of, command_on_four};
-ghost use Rattle.simdram_cli.specs.Words.{command_on_one, inputs_apart};
-ghost use Rattle.simdram_cli.specs.Words.{command_on_two, cost_on, init_on, soak_on};
-ghost use Rattle.simdram_cli.specs.Words.{verify_on};
-ghost use Rattle.simdram_cli.specs.Words.{traced_apart, trace_on};
-ghost use Rattle.simdram_cli.specs.Words.{command_on_three, replay_apart};
-ghost use Rattle.simdram_cli.specs.Words.{guard_apart, guard_on};
-ghost use Rattle.simdram_cli.specs.Words.{command_on_five, command_on_six, is_width, optimise_on};
+ghost use Rattle.simdram_cli.specs.Words.{all_differ, are_apart, command_named, command_on_five};
+ghost use Rattle.simdram_cli.specs.Words.{command_on_four, command_on_one, command_on_six};
+ghost use Rattle.simdram_cli.specs.Words.{command_on_three, command_on_two, cost_on, guard_apart};
+ghost use Rattle.simdram_cli.specs.Words.{init_on, inputs_apart, is_width, optimise_on};
+ghost use Rattle.simdram_cli.specs.Words.{replay_apart, soak_on, traced_apart, verify_on};
 
 use crate::account::{Account, ProgramAccount, account_named};
 use crate::numbers::{number_of, seed_of};
@@ -220,8 +218,8 @@ fn inputs_apart(prog: &str, script: &str, image: &str, out: &str) -> bool
 }
 
 /// Whether the five files of a recorded execution are apart, but for IMAGE and OUT.
-fn traced_apart(names: TraceNames<'_>) -> bool
-    ensures { result ≡ traced_apart names.entry }
+fn traced_apart(names: &TraceNames<'_>) -> bool
+    ensures { result ≡ traced_apart names.now }
 {
     are_apart(
         names.prog,
@@ -230,17 +228,6 @@ fn traced_apart(names: TraceNames<'_>) -> bool
         names.image,
         names.out,
     )
-}
-
-/// The command on the five files of a recorded execution.
-fn trace_on<'a>(verb: &str, names: TraceNames<'a>) -> Option<Command<'a>>
-    ensures { result ≡ trace_on verb.now names.entry }
-{
-    if verb == "trace" && traced_apart(names) {
-        Some(Command::Trace(names))
-    } else {
-        None
-    }
 }
 
 /// Whether the three files of a replay are apart, but for IMAGE and OUT.
@@ -252,7 +239,8 @@ fn replay_apart(trace: &str, image: &str, out: &str) -> bool
 
 /// The command `cost`, if its last word lists widths.
 fn cost_on<'a>(prog: &'a str, word: &str) -> Option<Command<'a>>
-    ensures { result ≡ cost_on prog.entry word.now }
+    ensures value { result ≡ cost_on prog.entry word.now }
+    ensures numbers { IfSome result HasNumbers }
 {
     match widths_of(word) {
         Some(widths) => Some(Command::Account(AccountNames {
@@ -263,13 +251,11 @@ fn cost_on<'a>(prog: &'a str, word: &str) -> Option<Command<'a>>
     }
 }
 
-/// The command `verify`, if its files are apart and its last word lists widths.
+/// The command `verify`, if its last word lists widths.
 fn verify_on<'a>(ops: &'a str, prog: &'a str, word: &str) -> Option<Command<'a>>
-    ensures { result ≡ verify_on ops.entry prog.entry word.now }
+    ensures value { result ≡ verify_on ops.entry prog.entry word.now }
+    ensures numbers { IfSome result HasNumbers }
 {
-    if ops == prog {
-        return None;
-    }
     match widths_of(word) {
         Some(widths) => Some(Command::Verify(VerifyNames { ops, prog, widths })),
         None => None,
@@ -278,7 +264,8 @@ fn verify_on<'a>(ops: &'a str, prog: &'a str, word: &str) -> Option<Command<'a>>
 
 /// The width that a word writes, if it is one.
 fn width_of(word: &str) -> Option<u8>
-    ensures { SomeIff result (is_width word.now ≡ true) (value_of word.now) }
+    ensures value { SomeIff result (is_width word.now ≡ true) (value_of word.now) }
+    ensures width { IfSome result (λ width. (0 < width) × (width ≤ WIDTH_MAX)) }
 {
     match number_of(word) {
         Some(width) if 0 < width && width <= u16::from(WIDTH_MAX) => Some(width as u8),
@@ -286,7 +273,7 @@ fn width_of(word: &str) -> Option<u8>
     }
 }
 
-/// The command `optimise`, if its files are apart and its numbers are a width, a seed and a count.
+/// The command `optimise`, if its numbers are a width, a seed and a count.
 fn optimise_on<'a>(
     ops: &'a str,
     prog: &'a str,
@@ -295,11 +282,10 @@ fn optimise_on<'a>(
     seed: &str,
     work: &str,
 ) -> Option<Command<'a>>
-    ensures { result ≡ optimise_on ops.entry prog.entry width.now new.entry seed.now work.now }
+    ensures value { result ≡ optimise_on ops.entry prog.entry width.now new.entry seed.now
+        work.now }
+    ensures numbers { IfSome result HasNumbers }
 {
-    if !three_differ(ops, prog, new) {
-        return None;
-    }
     let Some(width) = width_of(width) else {
         return None;
     };
@@ -321,7 +307,8 @@ fn optimise_on<'a>(
 
 /// The command `soak`, if its number is a seed.
 fn soak_on<'a>(seed: &str) -> Option<Command<'a>>
-    ensures { result ≡ soak_on seed.now }
+    ensures value { result ≡ soak_on seed.now }
+    ensures numbers { IfSome result HasNumbers }
 {
     match seed_of(seed) {
         Some(seed) => Some(Command::Soak(seed)),
@@ -331,7 +318,8 @@ fn soak_on<'a>(seed: &str) -> Option<Command<'a>>
 
 /// The command `init`, if its numbers are a chip's.
 fn init_on<'a>(banks: &str, rows: &str, words: &str, out: &'a str) -> Option<Command<'a>>
-    ensures { result ≡ init_on banks.now rows.now words.now out.entry }
+    ensures value { result ≡ init_on banks.now rows.now words.now out.entry }
+    ensures numbers { IfSome result HasNumbers }
 {
     let Some(banks) = number_of(banks) else {
         return None;
@@ -357,11 +345,13 @@ fn command_on_four<'a>(
     third: &'a str,
     fourth: &'a str,
 ) -> Option<Command<'a>>
-    ensures { result ≡ command_on_four verb.now first.entry second.entry third.entry fourth.entry }
+    ensures value { result ≡ command_on_four verb.now first.entry second.entry third.entry
+        fourth.entry }
+    ensures numbers { IfSome result HasNumbers }
 {
     if verb == "init" {
         init_on(first, second, third, fourth)
-    } else if verb == "exec" && inputs_apart(first, second, third, fourth) {
+    } else if verb == "exec" {
         Some(Command::Exec(ExecNames {
             prog: first,
             script: second,
@@ -377,7 +367,8 @@ fn command_on_four<'a>(
 
 /// The command of one word after its own.
 fn command_on_one<'a>(verb: &str, word: &'a str) -> Option<Command<'a>>
-    ensures { result ≡ command_on_one verb.now word.entry }
+    ensures value { result ≡ command_on_one verb.now word.entry }
+    ensures numbers { IfSome result HasNumbers }
 {
     if let Some(account) = account_named(verb) {
         Some(Command::Account(AccountNames {
@@ -391,11 +382,14 @@ fn command_on_one<'a>(verb: &str, word: &'a str) -> Option<Command<'a>>
     }
 }
 
-/// The command on two files.
+/// The command of two words after its own.
 fn command_on_two<'a>(verb: &str, first: &'a str, second: &'a str) -> Option<Command<'a>>
-    ensures { result ≡ command_on_two verb.now first.entry second.entry }
+    ensures value { result ≡ command_on_two verb.now first.entry second.entry }
+    ensures numbers { IfSome result HasNumbers }
 {
-    if verb == "compile" {
+    if verb == "cost" {
+        cost_on(first, second)
+    } else if verb == "compile" {
         Some(Command::Compile(CompileNames {
             ops: first,
             prog: second,
@@ -422,27 +416,17 @@ fn command_on_three<'a>(
     second: &'a str,
     third: &'a str,
 ) -> Option<Command<'a>>
-    ensures { result ≡ command_on_three verb.now first.entry second.entry third.entry }
+    ensures value { result ≡ command_on_three verb.now first.entry second.entry third.entry }
+    ensures numbers { IfSome result HasNumbers }
 {
     if verb == "verify" {
         verify_on(first, second, third)
-    } else if verb == "replay" && replay_apart(first, second, third) {
+    } else if verb == "replay" {
         Some(Command::Replay(ReplayNames {
             trace: first,
             image: second,
             out: third,
         }))
-    } else {
-        None
-    }
-}
-
-/// The command on six files.
-fn guard_on<'a>(verb: &str, names: GuardNames<'a>) -> Option<Command<'a>>
-    ensures { result ≡ guard_on verb.now names.entry }
-{
-    if verb == "guard" && guard_apart(&names) {
-        Some(Command::Guard(names))
     } else {
         None
     }
@@ -457,12 +441,13 @@ fn command_on_five<'a>(
     fourth: &'a str,
     fifth: &'a str,
 ) -> Option<Command<'a>>
-    ensures { result ≡ command_on_five verb.now first.entry second.entry third.entry fourth.entry
-        fifth.entry }
+    ensures value { result ≡ command_on_five verb.now first.entry second.entry third.entry
+        fourth.entry fifth.entry }
+    ensures numbers { IfSome result HasNumbers }
 {
     if verb == "optimise" {
         optimise_on(first, second, third, fourth, fifth, "50000")
-    } else if verb == "run" && are_apart(first, second, third, fourth, fifth) {
+    } else if verb == "run" {
         Some(Command::Run(RunNames {
             ops: first,
             prog: second,
@@ -470,17 +455,16 @@ fn command_on_five<'a>(
             image: fourth,
             out: fifth,
         }))
+    } else if verb == "trace" {
+        Some(Command::Trace(TraceNames {
+            prog: first,
+            script: second,
+            image: third,
+            out: fourth,
+            trace: fifth,
+        }))
     } else {
-        trace_on(
-            verb,
-            TraceNames {
-                prog: first,
-                script: second,
-                image: third,
-                out: fourth,
-                trace: fifth,
-            },
-        )
+        None
     }
 }
 
@@ -494,26 +478,30 @@ fn command_on_six<'a>(
     fifth: &'a str,
     sixth: &'a str,
 ) -> Option<Command<'a>>
-    ensures { result ≡ command_on_six verb.now first.entry second.entry third.entry fourth.entry
-        fifth.entry sixth.entry }
+    ensures value { result ≡ command_on_six verb.now first.entry second.entry third.entry
+        fourth.entry fifth.entry sixth.entry }
+    ensures numbers { IfSome result HasNumbers }
 {
     if verb == "optimise" {
-        return optimise_on(first, second, third, fourth, fifth, sixth);
+        optimise_on(first, second, third, fourth, fifth, sixth)
+    } else if verb == "guard" {
+        Some(Command::Guard(GuardNames {
+            ops: first,
+            prog: second,
+            script: third,
+            image: fourth,
+            flips: fifth,
+            out: sixth,
+        }))
+    } else {
+        None
     }
-    let names = GuardNames {
-        ops: first,
-        prog: second,
-        script: third,
-        image: fourth,
-        flips: fifth,
-        out: sixth,
-    };
-    guard_on(verb, names)
 }
 
-/// The command that the words are.
-pub fn command_of<'a>(words: &[&'a str]) -> Option<Command<'a>>
-    ensures { result ≡ command_of words.now }
+/// The command that the words name, whether its files are apart or not.
+fn command_named<'a>(words: &[&'a str]) -> Option<Command<'a>>
+    ensures value { result ≡ command_named words.now }
+    ensures numbers { IfSome result HasNumbers }
 {
     match words {
         [verb, first, second, third, fourth, fifth, sixth] => command_on_six(
@@ -526,16 +514,48 @@ pub fn command_of<'a>(words: &[&'a str]) -> Option<Command<'a>>
             command_on_four(*verb, *first, *second, *third, *fourth)
         }
         [verb, first, second, third] => command_on_three(*verb, *first, *second, *third),
-        [verb, first, second] => {
-            if *verb == "cost" {
-                cost_on(*first, *second)
-            } else if first == second {
-                None
-            } else {
-                command_on_two(*verb, *first, *second)
-            }
-        }
+        [verb, first, second] => command_on_two(*verb, *first, *second),
         [verb, word] => command_on_one(*verb, *word),
         _ => None,
+    }
+}
+
+/// Whether the files of a command are apart.
+fn is_apart(command: &Command<'_>) -> bool
+    ensures { result ≡ (facts command.now).apart }
+{
+    match command {
+        Command::Run(names) => are_apart(
+            names.ops,
+            names.prog,
+            names.script,
+            names.image,
+            names.out,
+        ),
+        Command::Exec(names) => inputs_apart(names.prog, names.script, names.image, names.out),
+        Command::Compile(names) => names.ops != names.prog,
+        Command::Migrate(names) => names.old != names.new,
+        Command::Account(_) | Command::Init(_) | Command::Soak(_) => true,
+        Command::Scan(names) => names.query != names.image,
+        Command::Trace(names) => traced_apart(names),
+        Command::Replay(names) => replay_apart(names.trace, names.image, names.out),
+        Command::Guard(names) => guard_apart(names),
+        Command::Verify(names) => names.ops != names.prog,
+        Command::Optimise(names) => three_differ(names.ops, names.prog, names.new),
+    }
+}
+
+/// The command that the words are.
+pub fn command_of<'a>(words: &[&'a str]) -> Option<Command<'a>>
+    ensures value { result ≡ command_of words.now }
+    ensures numbers { IfSome result HasNumbers }
+{
+    let Some(command) = command_named(words) else {
+        return None;
+    };
+    if is_apart(&command) {
+        Some(command)
+    } else {
+        None
     }
 }

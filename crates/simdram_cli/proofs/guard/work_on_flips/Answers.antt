@@ -49,7 +49,7 @@ returns-clause-runs g c =
     let job = λ (xs : List Flip). guard_job c.args.prog.programs script i xs in
     let out = c.args.names.now.out.now in
     let is = c.deref.ensures.value in
-    reads c.args.names.now.flips.now FLIPS_MAX (flips_in c.args.image.geometry (length script)) _
+    rw c.completed.ensures (reads c.args.names.now.flips.now FLIPS_MAX (flips_in c.args.image.geometry (length script)) _
     c.in_ok-flips.flips.items _ (g.F.Folder.view c.args.files.now)
     (g.F.Folder.view c.load_flips.new.files) (g.S.Sink.view c.args.out.now)
     (g.D.Dram.view c.args.chip.now) b
@@ -61,4 +61,4 @@ returns-clause-runs g c =
     (subst (λ (xs : List Flip). Goes (work_steps out (job xs)) (end_of c.work_guarded.result) a b)
     is c.work_guarded.ensures.goes)
     (subst (λ (xs : List Flip). IfOk c.work_guarded.result (GuardDone (job xs)
-    (g.D.Dram.view c.work_guarded.new.chip))) is c.work_guarded.ensures.done)))
+    (g.D.Dram.view c.work_guarded.new.chip))) is c.work_guarded.ensures.done))))

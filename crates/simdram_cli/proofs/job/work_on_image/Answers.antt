@@ -48,11 +48,12 @@ returns-in-Err-clause-runs g c =
 pub returns-clause-runs : goal.returns-clause-runs
 returns-clause-runs g c =
     let i = image_found (found_in c.in-Ok.image) in
-    parsed c.args.names.now.image.now IMAGE_MAX image_of _ c.in_ok-bytes.bytes.items i _
+    rw c.completed.ensures (parsed c.args.names.now.image.now IMAGE_MAX image_of _
+    c.in_ok-bytes.bytes.items i _
     (g.F.Folder.view c.args.files.now) (g.F.Folder.view c.load.new.files)
     (g.S.Sink.view c.args.out.now) (g.D.Dram.view c.args.chip.now) _ c.in_ok-bytes.ensures.loaded
     (image_is c.in_ok-bytes.bytes.items (found_in c.in-Ok.image)
     (rw c.deref.ensures.value at c.in-Ok.ensures.exact))
     (work_runs c.args.names.now.out.now c.args.prog.programs (map view_of c.args.script.now) i
     c.perform.result _ _ c.in-Ok.ensures.spelled.0 c.requires.plain c.perform.ensures.goes
-    c.perform.ensures.done)
+    c.perform.ensures.done))

@@ -1,15 +1,8 @@
 use Rattle.std.proofs.Common.{sym, ◌∙◌}
 use Rattle.cli_model.specs.World.{world}
-use Rattle.simdram_cli.proofs.Commanding.{command_right}
-use Rattle.simdram_cli.proofs.Completing.{completes_on, spares_on}
-use Rattle.simdram_cli.proofs.Promising.{answers_one, usage_of, keeps_promises}
+use Rattle.simdram_cli.proofs.Promising.{answers_one, completes_on, keeps_promises, spares_on}
+use Rattle.simdram_cli.proofs.Promising.{usage_of}
 use Rattle.simdram_cli.proofs.top.simdram.Goals as goal
-
-pub dispatch-requires : goal.dispatch-requires
-dispatch-requires g c =
-    let right = command_right c.args.words.now c.in-Some.command
-    (sym c.command_of.ensures ∙ c.in-Some.is) in
-    record { apart = right.apart; numbers = right.numbers }
 
 pub returns-in-Some-clause-usage : goal.returns-in-Some-clause-usage
 returns-in-Some-clause-usage g c =
@@ -18,7 +11,7 @@ returns-in-Some-clause-usage g c =
     (g.D.Dram.view c.args.chip.now))
     (world (g.F.Folder.view c.dispatch.new.files) (g.S.Sink.view c.dispatch.new.out)
     (g.D.Dram.view c.dispatch.new.chip))
-    c.dispatch.result (sym c.command_of.ensures ∙ c.in-Some.is) c.dispatch.ensures.ends
+    c.dispatch.result (sym c.command_of.ensures.value ∙ c.in-Some.is) c.dispatch.ensures.ends
 
 pub returns-in-Some-clause-no_other : goal.returns-in-Some-clause-no_other
 returns-in-Some-clause-no_other g c =
@@ -27,7 +20,7 @@ returns-in-Some-clause-no_other g c =
     (g.D.Dram.view c.args.chip.now))
     (world (g.F.Folder.view c.dispatch.new.files) (g.S.Sink.view c.dispatch.new.out)
     (g.D.Dram.view c.dispatch.new.chip))
-    c.dispatch.result (sym c.command_of.ensures ∙ c.in-Some.is) c.dispatch.ensures.ends
+    c.dispatch.result (sym c.command_of.ensures.value ∙ c.in-Some.is) c.dispatch.ensures.ends
 
 pub returns-in-Some-clause-headline : goal.returns-in-Some-clause-headline
 returns-in-Some-clause-headline g c =
@@ -36,7 +29,8 @@ returns-in-Some-clause-headline g c =
     (g.D.Dram.view c.args.chip.now))
     (world (g.F.Folder.view c.dispatch.new.files) (g.S.Sink.view c.dispatch.new.out)
     (g.D.Dram.view c.dispatch.new.chip))
-    c.dispatch.result (sym c.command_of.ensures ∙ c.in-Some.is) c.dispatch.ensures.ends
+    c.dispatch.result (sym c.command_of.ensures.value ∙ c.in-Some.is) c.in-Some.ensures.numbers
+    c.dispatch.ensures.ends
 
 pub returns-in-Some-clause-complete : goal.returns-in-Some-clause-complete
 returns-in-Some-clause-complete g c =
@@ -45,7 +39,7 @@ returns-in-Some-clause-complete g c =
     (g.D.Dram.view c.args.chip.now))
     (world (g.F.Folder.view c.dispatch.new.files) (g.S.Sink.view c.dispatch.new.out)
     (g.D.Dram.view c.dispatch.new.chip))
-    c.dispatch.result (sym c.command_of.ensures ∙ c.in-Some.is) c.dispatch.ensures.ends
+    c.dispatch.result (sym c.command_of.ensures.value ∙ c.in-Some.is) c.dispatch.ensures.ends
 
 pub returns-in-Some-clause-memory : goal.returns-in-Some-clause-memory
 returns-in-Some-clause-memory g c =
@@ -54,4 +48,4 @@ returns-in-Some-clause-memory g c =
     (g.D.Dram.view c.args.chip.now))
     (world (g.F.Folder.view c.dispatch.new.files) (g.S.Sink.view c.dispatch.new.out)
     (g.D.Dram.view c.dispatch.new.chip))
-    c.dispatch.result (sym c.command_of.ensures ∙ c.in-Some.is) c.dispatch.ensures.ends
+    c.dispatch.result (sym c.command_of.ensures.value ∙ c.in-Some.is) c.dispatch.ensures.ends

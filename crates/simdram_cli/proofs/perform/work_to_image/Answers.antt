@@ -13,7 +13,7 @@ use Rattle.simdram_cli.proofs.Sending.{left_by}
 use Rattle.simdram_cli.proofs.Stores.{at_err, at_ok, stored, unstored}
 use Rattle.simdram_cli.proofs.Tracing.{did_all, image_failed, image_is_on, image_stored}
 use Rattle.simdram_cli.proofs.Tracing.{image_unstored, then_image, work_stopped}
-use Rattle.simdram_cli.proofs.trace.work_to_image.Goals as goal
+use Rattle.simdram_cli.proofs.perform.work_to_image.Goals as goal
 
 pub returns-in_err-refused-clause-goes : goal.returns-in_err-refused-clause-goes
 returns-in_err-refused-clause-goes g c =
