@@ -6,16 +6,15 @@ words of a call say what comes of it: no clock is read.
 
 import os
 import re
-import sys
 import tempfile
 import typing
 
 from ..assembler.at_width import choice
-from ..files.fault import FileFault
+from ..files.fault import FileFault, NotWritten
 from ..files.program import Entry, Program
 from ..files.store import LIMITS, load, store
 from ..launcher import run_program
-from ..launcher.overwrite import write
+from ..launcher.overwrite import why_not_written, write
 from ..launcher.parallel import in_parallel
 from ..launcher.say import say
 from ..launcher.settings import Settings
@@ -132,11 +131,14 @@ def run(path: str, words: typing.Sequence[str], flags: typing.Collection[str], s
     ops, prog, width, new, *numbers = words
     try:
         entries, is_own = entries_of(prog, new)
-    except FileFault:  # the program says what is wrong
+    except FileFault:
+        entries = []
+    if not entries:  # the program says what is wrong with PROG, or that nothing is to be done
         return run_program.follow(path, ["optimise", *words])
+    reason = why_not_written(new, 0)
+    if reason:
+        raise NotWritten(new, "", "cannot write", reason)
     search = Search(path, Asked(ops, int(width), *map(int, numbers)), entries)
-    if not entries:
-        return run_program.follow(path, ["optimise", *words])
     try:
         search.run()
     except Refused as refused:
@@ -147,8 +149,7 @@ def run(path: str, words: typing.Sequence[str], flags: typing.Collection[str], s
         raise
     found, lines = with_named_rows(path, ops, search.file(), int(width)) if "--rows" in flags else (search.file(), "")
     keep(new, found, is_own, settings)
-    print(search.report() + lines, end="")
+    print(search.report() + lines, end="", flush=True)
     if any(one.line.split()[-1] in NOT_RIGHT for one in search.found):
-        sys.stdout.flush()
         say(f"simdram explain {ops} {prog} {width} says what is wrong, or what is not known")
     return 0
