@@ -16,7 +16,7 @@ from simdram.assembler.at_width import branch, choice, choices, earlier, made, t
 from simdram.assembler.reading import readable_lines
 from simdram.assembler.walks import walk
 from simdram.files.program import BNEZ, Entry, Program
-from simdram.optimise.named_rows import scratch, with_fewer_rows
+from simdram.optimise.named_rows import scratch, stays_in_words, with_fewer_rows
 from simdram.optimise.search import entries_of, is_made_of
 
 OPS = """op twice(a: word) -> y: word { t = add(a, a); y = add(t, t); }
@@ -132,6 +132,24 @@ class Optimised(unittest.TestCase):
         new = with_fewer_rows(old)
         self.assertEqual((new.bits, new.words, scratch(old, 4), scratch(new, 4)), (1, 1, 10, 5))
         self.assertEqual([str(row) for row in new.code[0].rows], ["s0[0]", "t0"])
+
+    def test_words_stay_that_are_reached_from_the_word_before(self):
+        text = """program inv(a: word) -> y: word
+        scratch w: word, v: word, u: word
+          if n == 4 {
+            for i in 0..n { AAP a[i] ~DCC0; AAP DCC0 y[i] }
+          } else {
+            for i in 0..n { AAP a[i] u[i]; AAP C0 w[n+i]; AAP u[i] ~DCC0; AAP DCC0 y[i]; AAP C0 w[i] }
+          }
+        """
+        entry = assemble(text.encode()).entries[0]
+        self.assertFalse(stays_in_words(entry))
+        self.assertEqual(with_fewer_rows(entry), entry)
+        (self.folder / "inv.ops").write_text("op inv(a: word) -> y: word { y = not(a); }")
+        (self.folder / "inv").write_bytes(Program([entry]).file())
+        ended = self.call("optimise", "inv.ops", "inv", "4", "inv4", "1", "0", "--rows")
+        self.assertEqual((ended.returncode, ended.stdout), (0, "inv as it was\noptimised 0 of 1 at 4\n"))
+        self.assertEqual(self.call("verify", "inv.ops", "inv4", "1-9").returncode, 0)
 
     def test_refusals_are_the_programs(self):
         for words, status in ((("p.ops", "p", "3"), 1), (("p", "p.ops", "3", "n"), 4), (("p.ops", "p.ops", "3", "n"), 1),

@@ -1,22 +1,39 @@
-"""Heads that reserve only the rows of scratch that a command names; `verify` has to find each such entry right."""
+"""Heads that reserve only the rows of scratch that a command names; `verify` has to find each such entry right.
+
+A bit of scratch has no index, so leaving out one that is not named changes nothing at any width. A row of a word may be reached by an index
+of the word before it; so words are left out only of an entry that names no row past its own word at any width, which is tried at each.
+"""
 
 import dataclasses
 import os
 import tempfile
 
+from ..assembler.walks import Stuck, walk
 from ..files.program import BIT, WORD, Entry, Instruction, Program
 from ..files.store import store
 from ..launcher import run_program
 from ..rules.verdicts import verdicts_of
 
+WIDTHS = range(1, 129)
 # where the space of a command's first row stands in its bytes, and where that of its second
 PLACES = (1, 4)
 
 
+def stays_in_words(entry: Entry) -> bool:
+    """Whether the entry ends at every width, and each row of a word that it names there is one of the word's own."""
+    try:
+        return all(position < n for n in WIDTHS for command in walk(entry, n) for space, _, position in command if space == WORD)
+    except Stuck:
+        return False
+
+
 def with_fewer_rows(entry: Entry) -> Entry:
-    """The entry with the bits and the words of scratch that its commands name, numbered anew in their order."""
+    """The entry with the bits of scratch that its commands name, and its words where these are left out rightly, numbered anew in their
+    order."""
     named = {(row.space, row.which) for one in entry.code for row in one.rows}
     kept = {space: sorted(which for of, which in named if of == space) for space in (BIT, WORD)}
+    if len(kept[WORD]) < entry.words and not stays_in_words(entry):
+        kept[WORD] = list(range(entry.words))
 
     def renamed(one: Instruction) -> Instruction:
         raw = bytearray(one.raw)
