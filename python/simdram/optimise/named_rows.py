@@ -1,0 +1,69 @@
+"""Heads that reserve only the rows of scratch that a command names; `verify` has to find each such entry right.
+
+A bit of scratch has no index, so leaving out one that is not named changes nothing at any width. A row of a word may be reached by an index
+of the word before it; so words are left out only of an entry that names no row past its own word at any width, which is tried at each.
+"""
+
+import dataclasses
+import os
+import tempfile
+
+from ..assembler.walks import Stuck, walk
+from ..files.program import BIT, WORD, Entry, Instruction, Program
+from ..files.store import store
+from ..launcher import run_program
+from ..rules.verdicts import verdicts_of
+
+WIDTHS = range(1, 129)
+# where the space of a command's first row stands in its bytes, and where that of its second
+PLACES = (1, 4)
+
+
+def stays_in_words(entry: Entry) -> bool:
+    """Whether the entry ends at every width, and each row of a word that it names there is one of the word's own."""
+    try:
+        return all(position < n for n in WIDTHS for command in walk(entry, n) for space, _, position in command if space == WORD)
+    except Stuck:
+        return False
+
+
+def with_fewer_rows(entry: Entry) -> Entry:
+    """The entry with the bits of scratch that its commands name, and its words where these are left out rightly, numbered anew in their
+    order."""
+    named = {(row.space, row.which) for one in entry.code for row in one.rows}
+    kept = {space: sorted(which for of, which in named if of == space) for space in (BIT, WORD)}
+    if len(kept[WORD]) < entry.words and not stays_in_words(entry):
+        kept[WORD] = list(range(entry.words))
+
+    def renamed(one: Instruction) -> Instruction:
+        raw = bytearray(one.raw)
+        for at, row in zip(PLACES, one.rows):
+            if row.space in kept:
+                raw[at + 1] = kept[row.space].index(row.which)
+        return Instruction(one.kind, bytes(raw))
+
+    return dataclasses.replace(entry, bits=len(kept[BIT]), words=len(kept[WORD]), code=tuple(map(renamed, entry.code)))
+
+
+def scratch(entry: Entry, n: int) -> int:
+    """How many rows of scratch an entry reserves at a width."""
+    return entry.bits + n * entry.words
+
+
+def with_named_rows(path: str, ops: str, file: bytes, n: int) -> tuple[bytes, str]:
+    """A program file with such heads, where `verify` finds their entries right at the width, and what is said of them."""
+    old = Program.read(file).entries
+    new = list(map(with_fewer_rows, old))
+    with tempfile.TemporaryDirectory(prefix="simdram_") as folder:
+        prog = os.path.join(folder, "prog")
+        store(prog, Program(new).file())
+        ended = run_program.run(["verify", ops, prog, n], path=path)
+    right = {verdict.name for verdict in verdicts_of(ended.out) if verdict.is_right}
+    taken = [made if made.name in right else entry for entry, made in zip(old, new)]
+    lines = []
+    for entry, made in zip(old, new):
+        before, after = scratch(entry, n), scratch(made, n)
+        if after < before:
+            said = f"{before} to {after}, right at {n}" if made.name in right else f"{before} as they were, as verify does not say right"
+            lines.append(f"{entry.name} rows {said}\n")
+    return Program(taken).file(), "".join(lines)
