@@ -14,7 +14,7 @@ from test_words import called
 from simdram.files.from_hex import bytes_in
 from simdram.files.image import Image, Object
 from simdram.files.program import Program
-from simdram.files.table import HEAD_MAX, Table
+from simdram.files.image import HEAD_MAX, Table
 from simdram.rules import word_ops
 from simdram.rules.answers import first_fault, no_triples, query_refusals, script_refusals
 from simdram.rules.flips_rules import explain_flips

@@ -19,7 +19,7 @@ from simdram.graphs.least_gates import expressions, text
 from simdram.graphs.mig import Graph
 from simdram.graphs.netlist import in_order
 from simdram.graphs.splitting import split
-from simdram.graphs.mig_formats import Ands, as_aiger, as_blif, as_dot
+from simdram.graphs.mig import Ands, as_aiger, as_blif, as_dot
 from simdram.launcher.faults import Fault
 from simdram.rules.ops_rules import explain_ops, shapes_of
 

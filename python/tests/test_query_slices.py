@@ -8,7 +8,7 @@ from support import needs_program
 from test_slices import Files
 
 from simdram.files.image import Image
-from simdram.files.table import HEAD_MAX, Table
+from simdram.files.image import HEAD_MAX, Table
 from simdram.rules.answers import query_refusals
 from simdram.rules.query_rules import read_query
 

@@ -8,9 +8,8 @@ import tempfile
 import typing
 
 from ..files.fields import NAME
-from ..files.image import Image, Object
+from ..files.image import Image, Object, Table
 from ..files.store import store
-from ..files.table import Table
 from ..launcher import run_program
 from ..rules import answers
 from .array import Array

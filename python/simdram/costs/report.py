@@ -13,8 +13,8 @@ import json
 import re
 import typing
 
+from ..files.image import HEAD_MAX, Table
 from ..files.store import load
-from ..files.table import HEAD_MAX, Table
 from ..launcher.commands import MAGIC
 from ..launcher.faults import Fault
 from ..launcher.overwrite import content

@@ -20,8 +20,7 @@ from ..launcher.tool_parser import tool_parser
 from ..rules.op_shapes import OpShape, Statement
 from ..rules.ops_rules import op_shape, shapes_of
 from .block_graph import Compiled, as_compiled, written
-from .mig import live
-from .mig_formats import as_aiger, as_blif, as_dot
+from .mig import as_aiger, as_blif, as_dot, live
 
 FORMATS = ("dot", "blif", "aiger")
 

@@ -7,9 +7,9 @@ import sys
 
 from ..assembler.one_width import one_width, other_width
 from ..files.fault import FileFault
+from ..files.image import HEAD_MAX, Table
 from ..files.program import Program
 from ..files.store import load
-from ..files.table import HEAD_MAX, Table
 from ..launcher.commands import Command
 from ..launcher.overwrite import why_not_written
 from ..launcher.settings import Settings

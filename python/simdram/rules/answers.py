@@ -4,9 +4,8 @@ import subprocess
 
 from ..assembler import assemble
 from ..files.fault import FileFault
-from ..files.image import Image
+from ..files.image import Image, Table
 from ..files.program import Entry, Program
-from ..files.table import Table
 from ..files.trace import Trace
 from ..launcher import run_program
 from ..launcher.commands import KINDS, MAGIC
@@ -16,8 +15,7 @@ from .answer import Answer, Breach, Refusal, at_token
 from .flips_rules import explain_flips
 from .ops_rules import explain_ops
 from .query_rules import read_query
-from .scan_refusals import scan_refusal
-from .script_refusals import Checker, refused
+from .script_refusals import Checker, refused, scan_refusal
 from .script_rules import read_script
 
 READERS = {"program": Program, "image": Image, "trace": Trace}

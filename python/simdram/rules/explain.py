@@ -9,9 +9,9 @@ needs SCRIPT and IMAGE. The status is 0 without a fault, else 1.
 import argparse
 import os
 
+from ..files.image import Table
 from ..files.program import Program
 from ..files.store import load
-from ..files.table import Table
 from ..launcher import run_program
 from ..launcher.commands import KINDS, MAGIC
 from ..launcher.faults import Fault

@@ -1,6 +1,6 @@
 """Texts of flips: the first line that breaks a rule of docs/FORMATS.md."""
 
-from ..files.table import Table
+from ..files.image import Table
 from .answer import Answer, Breach
 from .script_rules import lines_of
 from .tokens import NUMBER, STRANGER, no_token, value_of

@@ -3,8 +3,7 @@
 import dataclasses
 import typing
 
-from ..files.image import Object
-from ..files.table import Table
+from ..files.image import Object, Table
 from .answer import Breach, Refusal, near
 from .tokens import NAME_MAX, NUMBER, Token, is_long, value_of
 

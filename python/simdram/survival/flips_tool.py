@@ -10,8 +10,8 @@ import math
 import random
 import typing
 
+from ..files.image import HEAD_MAX, Table
 from ..files.store import load
-from ..files.table import HEAD_MAX, Table
 from ..launcher.faults import Fault
 from ..launcher.settings import Settings
 from ..launcher.tool_parser import tool_parser
