@@ -6,7 +6,6 @@ which the code can jump. Commands that implement several statements in one loop 
 `times` says how often a part is executed; without an operation text there are parts alone. Counts are those of one bank.
 """
 
-import argparse
 import csv
 import dataclasses
 import io
@@ -20,7 +19,7 @@ from ..launcher import run_program
 from ..launcher.commands import MAGIC
 from ..launcher.faults import Fault
 from ..launcher.settings import Settings
-from ..launcher.tool_parser import tool_parser
+from ..launcher.tool_parser import Asked, flag, option, tool
 from ..launcher.widths import widths_of
 from ..steps.code_parts import Part, parts
 from ..steps.op_texts import OpText, of_entries
@@ -161,22 +160,15 @@ def as_csv(found: list[Profile]) -> str:
     return text.getvalue()
 
 
-def parser() -> argparse.ArgumentParser:
-    made = tool_parser("profile", __name__)
-    made.add_argument("file", metavar="OPS|PROG")
-    made.add_argument("widths", metavar="N", nargs="+", help="widths, 1 to 128: 8, or 4,8,16-20")
-    made.add_argument("--ops", metavar="OPS", help="the operation text that PROG was compiled from")
-    made.add_argument("--op", metavar="NAME", help="this entry alone")
-    made.add_argument("--csv", action="store_true", help="with commas, for other programs")
-    return made
-
-
-def main(words: list[str], settings: Settings) -> int:
-    asked = parser().parse_intermixed_args(words)
+@tool(option("file", "OPS|PROG"),
+      option("widths", "N", "widths, 1 to 128: 8, or 4,8,16-20", nargs="+"),
+      option("--ops", "OPS", "the operation text that PROG was compiled from"),
+      option("--op", "NAME", "this entry alone"),
+      flag("--csv", "with commas, for other programs"))
+def main(asked: Asked, settings: Settings) -> None:
     found = of_file(asked.file, widths_of(",".join(asked.widths), "N"), settings, asked.ops)
     names = list(dict.fromkeys(one.name for one in found))
     if asked.op and asked.op not in names:
         raise Fault(f"{asked.file} has no entry {asked.op}: it has {', '.join(names) or 'none'}")
     found = [one for one in found if asked.op in (None, one.name)]
     print(as_csv(found) if asked.csv else "".join(f"{one}\n" for one in found), end="")
-    return 0

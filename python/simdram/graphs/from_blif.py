@@ -9,7 +9,6 @@ language are changed, which a comment says. A netlist of more than four inputs o
 the instructions that call them in order. What breaks a limit of the language is refused with its rule.
 """
 
-import argparse
 import collections
 import re
 import sys
@@ -17,7 +16,7 @@ import sys
 from ..files.store import load
 from ..launcher.faults import Fault
 from ..launcher.settings import Settings
-from ..launcher.tool_parser import tool_parser
+from ..launcher.tool_parser import Asked, flag, option, tool
 from ..rules.ops_rules import RESERVED, RESULTS, SOURCES, explain_ops
 from ..rules.tokens import NAME_MAX
 from ..rules.word_ops import GATES
@@ -111,16 +110,6 @@ class Block:
         return self.names.name(signal)
 
 
-def parser() -> argparse.ArgumentParser:
-    made = tool_parser("from-blif", __name__, "FILE")
-    made.add_argument("--name", metavar="NAME", help="the op's name; else the model's")
-    made.add_argument("--down", action="store_true", help="the block goes from the top bit down")
-    made.add_argument("--bit", action="append", default=[], metavar="NAME", help="an input that is one bit for all positions")
-    made.add_argument("--genlib", metavar="LIBRARY", help="the library of the gates in .gate lines")
-    made.add_argument("--state", action="append", default=[], metavar="NAME=BIT", help="how a state begins")
-    return made
-
-
 def read(path: str, genlib: str | None) -> Netlist:
     """The netlist of a file."""
     data = load(path)
@@ -143,8 +132,13 @@ def calls(net: Netlist, nets: list[Netlist], path: str) -> str:
     return "".join(f"# {line}\n" for line in [said, *lines])
 
 
-def main(words: list[str], _settings: Settings) -> int:
-    asked = parser().parse_args(words)
+@tool("FILE",
+      option("--name", "NAME", "the op's name; else the model's"),
+      flag("--down", "the block goes from the top bit down"),
+      option("--bit", "NAME", "an input that is one bit for all positions", action="append", default=[]),
+      option("--genlib", "LIBRARY", "the library of the gates in .gate lines"),
+      option("--state", "NAME=BIT", "how a state begins", action="append", default=[]))
+def main(asked: Asked, _settings: Settings) -> None:
     starts = {}
     for one in asked.state:
         name, equals, bit = one.partition("=")
@@ -164,4 +158,3 @@ def main(words: list[str], _settings: Settings) -> int:
     if answer is not None:
         raise Fault(f"{asked.file}: the op would break a rule, {answer.kind}: {answer.rule}")
     print(text, end="")
-    return 0

@@ -13,7 +13,7 @@ from .faults import NoProgram
 from .minutes import SECONDS, seconds_of
 from .say import say, show
 from .settings import Settings
-from .tool_parser import tool_parser
+from .tool_parser import Asked, tool
 
 INTERRUPTED = 130
 # a crate that took less was proved before
@@ -138,9 +138,8 @@ def prove() -> None:
     os.utime(out / PROVED, ns=(began, began))
 
 
-def main(words: list[str], _settings: Settings) -> int:
-    tool_parser("prove", __name__).parse_args(words)
+@tool()
+def main(_asked: Asked, _settings: Settings) -> None:
     if is_old(out_folder() / PROVED, SOURCES[PROVED]):
         prove()
     print(out_folder() / PROVED)
-    return 0

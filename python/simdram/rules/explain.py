@@ -6,7 +6,6 @@ scan is refused; with PROG and a width N after an operation text, what `verify` 
 needs SCRIPT and IMAGE. The status is 0 without a fault, else 1.
 """
 
-import argparse
 import os
 
 from ..files.image import Table
@@ -16,7 +15,7 @@ from ..launcher import run_program
 from ..launcher.commands import KINDS, MAGIC
 from ..launcher.faults import Fault
 from ..launcher.settings import Settings
-from ..launcher.tool_parser import tool_parser
+from ..launcher.tool_parser import Asked, option, tool
 from ..launcher.words import wrong_number
 from . import answers
 from .answer import Answer
@@ -110,12 +109,6 @@ def found_in(path: str, beside: dict, width: int, settings: Settings) -> list[An
     return []
 
 
-def parser() -> argparse.ArgumentParser:
-    made = tool_parser("explain", __name__, "FILE")
-    made.add_argument("beside", metavar="BESIDE", nargs="*", default=[])
-    return made
-
-
 def width_of(words: list[str]) -> int:
     """The width that stands last, which is taken out, or 0 where none does."""
     if not words or not words[-1].isdigit():
@@ -126,8 +119,8 @@ def width_of(words: list[str]) -> int:
     return int(words.pop())
 
 
-def main(words: list[str], settings: Settings) -> int:
-    asked = parser().parse_args(words)
+@tool("FILE", option("beside", "BESIDE", nargs="*", default=[]))
+def main(asked: Asked, settings: Settings) -> int:
     width, beside = width_of(asked.beside), {}
     for path in asked.beside:
         kind, data = kind_of(path)

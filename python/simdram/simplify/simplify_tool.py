@@ -11,7 +11,6 @@ idle one does; if it is over, the best text so far is taken. What statements
 cost is kept in ~/.cache/simdram, or in the folder that SIMDRAM_CACHE names, for later calls.
 """
 
-import argparse
 import os
 import sys
 
@@ -20,7 +19,7 @@ from ..launcher import run_program
 from ..launcher.faults import Fault
 from ..launcher.overwrite import check, write
 from ..launcher.settings import Settings
-from ..launcher.tool_parser import tool_parser
+from ..launcher.tool_parser import Asked, flag, option, tool
 from ..launcher.widths import widths_of
 from ..rules import answers
 from .outcome import WRONG, Outcome, new_text
@@ -29,17 +28,7 @@ from .simplifier import SECONDS, Options, Simplifier
 FAULTY = 1
 
 
-def parser() -> argparse.ArgumentParser:
-    made = tool_parser("simplify", __name__, "OPS", "[NEW]")
-    made.add_argument("--widths", default="4,8,16,32", metavar="N,N,..", help="where no op is dearer, and is compared")
-    made.add_argument("--seconds", type=float, default=SECONDS, metavar="S",
-                      help="in how many processor seconds all ops are done, this tool's and its calls' together; 40 unless given")
-    made.add_argument("--rows", action="store_true", help="take no text of more scratch rows")
-    made.add_argument("--unvalidated", action="store_true", help="take texts that are not known to be equal, with a comment")
-    return made
-
-
-def check_words(asked: argparse.Namespace, settings: Settings) -> None:
+def check_words(asked: Asked, settings: Settings) -> None:
     """Refuses times that are none, and a NEW that is OPS or another kind of file."""
     if not 0 < asked.seconds <= 86400:
         raise Fault("--seconds is above 0, and at most 86400")
@@ -65,8 +54,13 @@ def show_wrong(one: Outcome, before: bytes) -> None:
     print(f"as it was:\n{before.decode('utf-8', 'replace')}\nas it was simplified:\n{one.simpler.text}", end="", file=sys.stderr)
 
 
-def main(words: list[str], settings: Settings) -> int:
-    asked = parser().parse_intermixed_args(words)
+@tool("OPS", "[NEW]",
+      option("--widths", "N,N,..", "where no op is dearer, and is compared", default="4,8,16,32"),
+      option("--seconds", "S", "in how many processor seconds all ops are done, this tool's and its calls' together; 40 unless given",
+             type=float, default=SECONDS),
+      flag("--rows", "take no text of more scratch rows"),
+      flag("--unvalidated", "take texts that are not known to be equal, with a comment"))
+def main(asked: Asked, settings: Settings) -> int:
     options = Options(tuple(widths_of(asked.widths)), asked.seconds, asked.rows, asked.unvalidated)
     check_words(asked, settings)
     simplifier = Simplifier(run_program.program(settings), options)

@@ -14,7 +14,7 @@ from ..files.image import HEAD_MAX, Table
 from ..files.store import load
 from ..launcher.faults import Fault
 from ..launcher.settings import Settings
-from ..launcher.tool_parser import tool_parser
+from ..launcher.tool_parser import Asked, option, tool
 from ..rules.script_rules import loaded_script
 
 # the greatest text of flips that a guarded run reads
@@ -111,19 +111,12 @@ def seed_of(text: str) -> int:
     return int(text)
 
 
-def parser() -> argparse.ArgumentParser:
-    made = tool_parser("flips", __name__)
-    made.add_argument("--rate", required=True, metavar="R", help="the probability, 0 to 1")
-    made.add_argument("--seed", type=seed_of, default=0, metavar="S", help="another seed, other flips; 0 unless it is given")
-    made.add_argument("--script", required=True, metavar="SCRIPT", help="the script that will be guarded")
-    made.add_argument("image", metavar="IMAGE", help="the image that it will be executed on")
-    return made
-
-
-def main(words: list[str], _settings: Settings) -> int:
-    asked = parser().parse_args(words)
+@tool(option("--rate", "R", "the probability, 0 to 1", required=True),
+      option("--seed", "S", "another seed, other flips; 0 unless it is given", type=seed_of, default=0),
+      option("--script", "SCRIPT", "the script that will be guarded", required=True),
+      option("image", "IMAGE", "the image that it will be executed on"))
+def main(asked: Asked, _settings: Settings) -> None:
     cells, rate = cells_of(asked.script, asked.image), rate_of(asked.rate)
     head = f"# each of {cells.chances:,} chances (data cells times instructions) at the rate {rate:g}, seed {asked.seed}\n"
     body = text_of(drawn(cells, rate, asked.seed))
     print((head if len(head) + len(body) <= LARGEST else "") + body, end="")
-    return 0

@@ -7,7 +7,6 @@ interval (Wilson's) of the probability behind it, the mean, least and most flips
 Flips hit all data cells of IMAGE, also those that no object stands in.
 """
 
-import argparse
 import dataclasses
 import math
 import os
@@ -23,7 +22,7 @@ from ..launcher import run_program
 from ..launcher.faults import Fault
 from ..launcher.parallel import in_parallel
 from ..launcher.settings import Settings
-from ..launcher.tool_parser import tool_parser
+from ..launcher.tool_parser import Asked, option, tool
 from .flips_tool import Cells, cells_of, drawn, rate_of, seed_of, text_of
 
 HEAD = ("rate", "runs", "right", "share", "low", "high", "flips_mean", "flips_least", "flips_most", "first_wrong_seed")
@@ -118,19 +117,14 @@ def picture_of(rows: Rows) -> Picture:
     return Picture(lines, "flips for each cell and instruction", "runs with all answers right, in %", True)
 
 
-def parser() -> argparse.ArgumentParser:
-    made = tool_parser("survival", __name__, "OPS", "SCRIPT", "IMAGE")
-    made.add_argument("--rates", required=True, metavar="R,R,..", help="rates, 0 to 1 each, such as 1e-6,1e-5,1e-4")
-    made.add_argument("--runs", type=int, default=100, metavar="N", help="runs for each rate; 100 unless it is given")
-    made.add_argument("--seed", type=seed_of, default=0, metavar="S", help="the seed of the first run; 0 unless it is given")
-    made.add_argument("--format", choices=sorted(FORMATS), default="text", help="how the table is written")
-    made.add_argument("--csv", action="store_const", const="csv", dest="format", help="as --format csv")
-    made.add_argument("--plot", metavar="OUT", help="draw the shares over the rates, into OUT.svg or OUT.png")
-    return made
-
-
-def main(words: list[str], settings: Settings) -> int:
-    asked = parser().parse_args(words)
+@tool("OPS", "SCRIPT", "IMAGE",
+      option("--rates", "R,R,..", "rates, 0 to 1 each, such as 1e-6,1e-5,1e-4", required=True),
+      option("--runs", "N", "runs for each rate; 100 unless it is given", type=int, default=100),
+      option("--seed", "S", "the seed of the first run; 0 unless it is given", type=seed_of, default=0),
+      option("--format", help="how the table is written", choices=sorted(FORMATS), default="text"),
+      option("--csv", help="as --format csv", action="store_const", const="csv", dest="format"),
+      option("--plot", "OUT", "draw the shares over the rates, into OUT.svg or OUT.png"))
+def main(asked: Asked, settings: Settings) -> None:
     rates = list(dict.fromkeys(map(rate_of, asked.rates.split(","))))
     if not 1 <= asked.runs <= RUNS_MOST:
         raise Fault(f"--runs is 1 to {RUNS_MOST:,}")
@@ -142,4 +136,3 @@ def main(words: list[str], settings: Settings) -> int:
     if asked.plot:
         write(picture_of(rows), asked.plot, settings)
     print(FORMATS[asked.format]([list(HEAD), *rows]), end="")
-    return 0
