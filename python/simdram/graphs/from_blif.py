@@ -17,7 +17,8 @@ from ..files.store import load
 from ..launcher.faults import Fault
 from ..launcher.settings import Settings
 from ..launcher.tool_parser import Asked, flag, option, tool
-from ..rules.ops_rules import RESERVED, RESULTS, SOURCES, explain_ops
+from ..rules.answer import first_breach
+from ..rules.ops_rules import RESERVED, RESULTS, SOURCES, read_ops
 from ..rules.tokens import NAME_MAX
 from ..rules.word_ops import GATES
 from . import aiger_file
@@ -154,7 +155,7 @@ def main(asked: Asked, _settings: Settings) -> None:
     blocks = [Block(one, asked.file, [bit for bit in asked.bit if bit in one.sources],
                     {state: bit for state, bit in starts.items() if state in one.states}, len(nets) == 1) for one in nets]
     text = calls(net, nets, asked.file) + "".join(one.text(one.net.name, "down" if asked.down else "up") for one in blocks)
-    answer = explain_ops(asked.file, text.encode())
+    answer = first_breach(asked.file, text.encode(), read_ops)
     if answer is not None:
         raise Fault(f"{asked.file}: the op would break a rule, {answer.kind}: {answer.rule}")
     print(text, end="")

@@ -4,7 +4,7 @@ import typing
 
 from ..launcher.faults import Fault
 from . import word_ops
-from .answer import Answer, Breach, near
+from .answer import Breach, near
 from .op_shapes import OpShape, Statement
 from .op_tree import Expr, Op, gate, read
 from .tokens import END, NAME, NAME_MAX, STRANGER, Token, is_long, no_token, tokens
@@ -351,22 +351,24 @@ class Reader:
         self.limit(token, depth, DEPTH, "gates nest at most {} deep")
 
 
-def read_ops(data: bytes) -> list[Op]:
-    """The ops of a text that the program accepts, as trees."""
+def read_shapes(data: bytes) -> list[OpShape]:
+    """What a text that the program accepts says of each op."""
     reader = Reader(data)
     reader.read()
-    return [shape.tree() for shape in reader.shapes]
+    return reader.shapes
+
+
+def read_ops(data: bytes) -> list[Op]:
+    """The ops of a text that the program accepts, as trees."""
+    return [shape.tree() for shape in read_shapes(data)]
 
 
 def shapes_of(path: str, data: bytes) -> list[OpShape]:
     """What an operation text says of each op."""
-    reader = Reader(data)
     try:
-        reader.read()
+        return read_shapes(data)
     except Breach as breach:
-        answer = breach.answer(path, data)
-        raise Fault(f"{path} {answer.place}: {answer.kind}: {answer.rule}") from None
-    return reader.shapes
+        raise breach.fault(path, data) from None
 
 
 def op_shape(path: str, data: bytes, name: str) -> OpShape:
@@ -376,12 +378,3 @@ def op_shape(path: str, data: bytes, name: str) -> OpShape:
     if found is None:
         raise Fault(f"{path} has no op {name}: it has {listed(shape.name for shape in shapes)}")
     return found
-
-
-def explain_ops(path: str, data: bytes) -> Answer | None:
-    """The first fault of an operation text, or nothing where there is none."""
-    try:
-        Reader(data).read()
-    except Breach as breach:
-        return breach.answer(path, data)
-    return None

@@ -4,9 +4,8 @@ import dataclasses
 import typing
 
 from ..files.store import load
-from ..launcher.faults import Fault
 from ..launcher.words import nearest
-from .answer import Answer, Breach
+from .answer import Breach
 from .operands import WIDTH_MAX, Operand, operand_at
 from .tokens import END, NAME, NAME_MAX, NUMBER, STRANGER, Token, is_long, no_token, tokens, value_of
 
@@ -180,23 +179,15 @@ def lines_of(data: bytes) -> typing.Iterator[list[Token]]:
         start += len(text) + 1
 
 
-def read_script(path: str, data: bytes) -> tuple[list[Instruction], Answer | None]:
-    """The instructions of a script up to the first line that breaks a rule, and that fault."""
-    found: list[Instruction] = []
-    for line in lines_of(data):
-        try:
-            one = instruction_of(line)
-        except Breach as breach:
-            return found, breach.answer(path, data)
-        if one is not None:
-            found.append(one)
-    return found, None
+def read_script(data: bytes) -> list[Instruction]:
+    """The instructions of a script."""
+    return list(filter(None, map(instruction_of, lines_of(data))))
 
 
 def loaded_script(path: str) -> tuple[list[Instruction], bytes]:
     """The instructions of a script's file, and its bytes."""
     data = load(path, "script")
-    found, fault = read_script(path, data)
-    if fault:
-        raise Fault(f"{path} {fault.place}: {fault.kind}: {fault.rule}")
-    return found, data
+    try:
+        return read_script(data), data
+    except Breach as breach:
+        raise breach.fault(path, data) from None
