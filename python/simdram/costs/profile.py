@@ -9,18 +9,18 @@ which the code can jump. Commands that implement several statements in one loop 
 import csv
 import dataclasses
 import io
-import os
-import tempfile
 
 from ..assembler.walks import executions
 from ..files.program import AAP, Entry, Program
-from ..files.store import load, store
+from ..files.store import folder_of, load
 from ..launcher import run_program
 from ..launcher.commands import MAGIC
 from ..launcher.faults import Fault
 from ..launcher.settings import Settings
 from ..launcher.tool_parser import Asked, flag, option, tool
 from ..launcher.widths import widths_of
+from ..rules.answer import first_breach
+from ..rules.ops_rules import read_ops
 from ..steps.code_parts import Part, parts
 from ..steps.op_texts import OpText, of_entries
 from .costs import EntryCost, costs_at
@@ -125,25 +125,17 @@ def profiles(path: str, widths: list[int], settings: Settings, ops: str | None =
 
 def of_file(path: str, widths: list[int], settings: Settings, ops: str | None = None) -> list[Profile]:
     """The profiles of a program file, or of an operation text, which is compiled into a file that is removed after it."""
-    if load(path).startswith(MAGIC["program"]):
+    data = load(path)
+    if data.startswith(MAGIC["program"]):
         return profiles(path, widths, settings, ops)
     if ops:
         raise Fault(f"{path} is no program file: --ops goes with one")
-    with tempfile.TemporaryDirectory(prefix="simdram_") as folder:
-        made = os.path.join(folder, "prog")
-        compile_text(path, made, settings)
-        return profiles(made, widths, settings, path, True)
-
-
-def compile_text(path: str, made: str, settings: Settings) -> None:
-    """Compiles an operation text; its fault is told as `explain` tells it."""
-    data = load(path)
-    store(f"{made}.ops", data)
-    ended = run_program.run(["compile", f"{made}.ops", made], settings=settings)
-    if ended.status:
-        from ..rules import answers
-        fault = answers.first_fault("ops", path, data)
-        raise Fault("\n".join(fault.lines()) if fault else f"{path}: compile ended with {ended.out.strip() or ended.status}")
+    with folder_of(ops=data) as folder:
+        ended = run_program.run(["compile", "ops", "prog"], folder, settings)
+        if ended.status:
+            fault = first_breach(path, data, read_ops)
+            raise Fault("\n".join(fault.lines()) if fault else f"{path}: compile ended with {ended.out.strip() or ended.status}")
+        return profiles(f"{folder}/prog", widths, settings, path, True)
 
 
 def as_csv(found: list[Profile]) -> str:

@@ -9,6 +9,7 @@ import errno
 import os
 import shutil
 import stat
+import tempfile
 import typing
 
 from .fault import FileFault, NotWritten, TooLong
@@ -118,6 +119,15 @@ def store(path: str, data: bytes, is_synced: bool = False) -> None:
             os.replace(name, place)
     except OSError as fault:
         raise NotWritten(path, "", "cannot write", fault.strerror or str(fault)) from None
+
+
+@contextlib.contextmanager
+def folder_of(**files: bytes) -> typing.Iterator[str]:
+    """A folder with these files by their names, which is removed afterwards."""
+    with tempfile.TemporaryDirectory(prefix="simdram_") as folder:
+        for name, data in files.items():
+            store(os.path.join(folder, name), data)
+        yield folder
 
 
 def free_name(path: str) -> str:

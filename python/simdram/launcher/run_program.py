@@ -12,7 +12,7 @@ import sys
 import typing
 
 from . import build
-from .faults import NoProgram
+from .faults import Fault, NoProgram
 from .places import TOP
 from .say import is_new_here, say
 from .settings import Settings, taken
@@ -105,6 +105,11 @@ class Ended(typing.NamedTuple):
     status: int
     out: str
     err: str
+
+    def check(self, what: str) -> None:
+        """Raises what it said where it did not end with status 0."""
+        if self.status:
+            raise Fault(f"{what} ended with status {self.status}: {self.out.strip() or self.err.strip()}")
 
 
 # the calls of the program that have not ended, of all threads

@@ -9,15 +9,13 @@ Flips hit all data cells of IMAGE, also those that no object stands in.
 
 import dataclasses
 import math
-import os
-import tempfile
 import typing
 
 from ..costs.picture import COLOURS, Line, Picture, check_out, write
 from ..costs.report import PRINTED
 from ..costs.table_formats import FORMATS, Rows
 from ..files.image import Image
-from ..files.store import load, store
+from ..files.store import folder_of, load
 from ..launcher import run_program
 from ..launcher.faults import Fault
 from ..launcher.parallel import in_parallel
@@ -58,9 +56,8 @@ class Job:
 
     def answers(self, flips: str) -> Answers:
         """The answers under a text of flips."""
-        with tempfile.TemporaryDirectory(prefix="simdram_") as folder:
-            path, prog, out = (os.path.join(folder, name) for name in ("flips", "prog", "out"))
-            store(path, flips.encode())
+        with folder_of(flips=flips.encode()) as folder:
+            path, prog, out = (f"{folder}/{name}" for name in ("flips", "prog", "out"))
             ended = run_program.run(["guard", self.ops, prog, self.script, self.image, path, out], path=self.program)
             if ended.status:
                 said = (ended.out.splitlines() or [ended.err.strip()])[-1]
