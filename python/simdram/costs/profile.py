@@ -64,14 +64,9 @@ class Profile:
         return "\n".join(lines)
 
 
-def share(row: Row, whole: int) -> str:
-    """A row's share of all commands."""
-    return f"{100 * row.commands / whole:.1f}%" if whole else "-"
-
-
 def cells_of(row: Row, whole: int, has_times: bool) -> list[str]:
     numbers = [row.commands, row.aap, row.ap, *([row.times] if has_times else [])]
-    return [share(row, whole), *map(str, numbers), row.what]
+    return [f"{100 * row.commands / whole:.1f}%" if whole else "-", *map(str, numbers), row.what]
 
 
 def table(head: list[str], rows: tuple[Row, ...], whole: int) -> list[str]:

@@ -43,11 +43,6 @@ class Script(typing.NamedTuple):
         return cls(instructions, [line.decode("utf-8", "replace").partition("#")[0].strip() for line in ends])
 
 
-def table_in(image: str) -> Table:
-    """The geometry and the objects of an image file."""
-    return Table.read(load(image, "image")[:HEAD_MAX], image)
-
-
 def in_banks(found: dict, script: Script, table: Table) -> None:
     """Adds what one bank and one element of an instruction cost."""
     one = script.instructions[found["number"] - 1]
@@ -139,7 +134,7 @@ def text_of(report: str | None) -> str:
 def main(asked: Asked, _settings: Settings) -> None:
     if asked.script and not asked.image:
         raise Fault("--script needs --image, the image that the script ran on")
-    table = table_in(asked.image) if asked.image else None
+    table = Table.read(load(asked.image, "image")[:HEAD_MAX], asked.image) if asked.image else None
     script = Script.load(asked.script) if asked.script else None
     made = object_of(text_of(asked.report), table, script)
     print(json.dumps(made, indent=1) if asked.json else table_of(made))

@@ -70,8 +70,13 @@ class Table:
         """The table that a file of this kind begins with, taken from its fields."""
         fields.magic(magic, kind)
         fields.within(2, 1, 1, "version", "the version")
-        geometry = read_geometry(fields)
-        return Table(*geometry, read_table(fields, *geometry))
+        banks = fields.within(2, *BANKS, "geometry", "the number of banks")
+        rows = fields.within(2, *ROWS, "geometry", "the number of rows")
+        words = fields.within(2, *WORDS, "geometry", "the number of words")
+        wrong = geometry_fault(banks, rows, words)
+        if wrong:
+            raise fields.fault("geometry", wrong)
+        return Table(banks, rows, words, read_table(fields, banks, rows, words))
 
     def head(self, magic: bytes) -> bytes:
         """The head of an image or a trace."""
@@ -122,17 +127,6 @@ class Table:
     def rows_for(self, size: int) -> int:
         """The rows of an image with which so many would be free in one piece, where nothing is freed."""
         return max((one.past for one in self.objects), default=0) + size + SPILL_ROWS
-
-
-def read_geometry(fields: Fields) -> tuple[int, int, int]:
-    """The banks, rows and words of an image or a trace."""
-    banks = fields.within(2, *BANKS, "geometry", "the number of banks")
-    rows = fields.within(2, *ROWS, "geometry", "the number of rows")
-    words = fields.within(2, *WORDS, "geometry", "the number of words")
-    wrong = geometry_fault(banks, rows, words)
-    if wrong:
-        raise fields.fault("geometry", wrong)
-    return banks, rows, words
 
 
 def read_table(fields: Fields, banks: int, rows: int, words: int) -> list[Object]:
@@ -232,10 +226,6 @@ class Image(Table):
         """Removes an object from the table, and leaves its rows."""
         self.objects.remove(self.find(name))
 
-    def segment(self, found: Object, bank: int) -> int:
-        """How many of the object's elements stand in this bank."""
-        return max(0, min(self.columns, found.count - bank * self.columns))
-
     def place(self, bank: int, row: int) -> int:
         """Where a row begins in the contents."""
         return 8 * self.words * (self.rows * bank + row)
@@ -246,7 +236,7 @@ class Image(Table):
         width = width or found.width
         size = columns.size_of(width)
         for bank in range(self.banks):
-            kept = self.segment(found, bank)
+            kept = max(0, min(self.columns, found.count - bank * self.columns))
             if kept:
                 rows = [self._row(bank, found.base + low + k) for k in range(width)]
                 cells.append(columns.cells_of(rows, kept, size))

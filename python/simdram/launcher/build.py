@@ -9,7 +9,6 @@ import sys
 import tempfile
 import threading
 import time
-import typing
 
 from . import fast_toolchain
 from .faults import NoProgram
@@ -111,18 +110,13 @@ def compile_unproved() -> None:
     need_rt()
     out_folder().mkdir(parents=True, exist_ok=True)
     with open(out_folder() / "lock", "wb") as lock:
-        wait_for(lock)
+        try:
+            fcntl.flock(lock, fcntl.LOCK_EX | fcntl.LOCK_NB)
+        except BlockingIOError:
+            say("another call compiles the program; waiting for it")
+            fcntl.flock(lock, fcntl.LOCK_EX)
         if is_old(out_folder() / UNPROVED, SOURCES[UNPROVED]):
             compile_into_place()
-
-
-def wait_for(lock: typing.BinaryIO) -> None:
-    """Waits until no other call compiles here."""
-    try:
-        fcntl.flock(lock, fcntl.LOCK_EX | fcntl.LOCK_NB)
-    except BlockingIOError:
-        say("another call compiles the program; waiting for it")
-        fcntl.flock(lock, fcntl.LOCK_EX)
 
 
 def compile_into_place() -> None:

@@ -46,19 +46,14 @@ def right_bytes(word: str, data: bytes) -> tuple[str, ...]:
     return (RIGHT[word],) if word in RIGHT else ()
 
 
-def explain_bytes(kind: str, path: str, data: bytes) -> Answer | None:
-    """The first fault of a program file, an image or a trace."""
-    try:
-        READERS[kind].read(data, path)
-    except FileFault as fault:
-        return Answer(path, fault.place, fault.word, fault.what, right_bytes(fault.word, data))
-    return None
-
-
 def first_fault(kind: str, path: str, data: bytes) -> Answer | None:
     """The first fault of a file of a kind, by itself."""
     if kind not in TEXTS:
-        return explain_bytes(kind, path, data)
+        try:
+            READERS[kind].read(data, path)
+        except FileFault as fault:
+            return Answer(path, fault.place, fault.word, fault.what, right_bytes(fault.word, data))
+        return None
     found = first_breach(path, data, TEXTS[kind])
     if found and data.startswith(tuple(MAGIC.values())):
         return Answer(path, found.place, found.kind, f"{KINDS[kind]} is read here, and the file holds {content(data[:512])}")

@@ -65,15 +65,10 @@ def drawn(cells: Cells, rate: float, seed: int) -> typing.Iterator[Flip]:
     dice = random.Random(seed)
     at = -1
     while rate > 0:
-        at += 1 + gap(dice.random(), rate)
+        at += 1 + (0 if rate == 1 else math.floor(math.log1p(-dice.random()) / math.log1p(-rate)))
         if at >= cells.chances:
             return
         yield cells.flip(at)
-
-
-def gap(draw: float, rate: float) -> int:
-    """How many chances go by before the next flip, by a number drawn from 0 to 1."""
-    return 0 if rate == 1 else math.floor(math.log1p(-draw) / math.log1p(-rate))
 
 
 def text_of(flips: typing.Iterable[Flip]) -> str:

@@ -62,16 +62,14 @@ class Job:
             if ended.status:
                 said = (ended.out.splitlines() or [ended.err.strip()])[-1]
                 raise Fault(f"guard ended with status {ended.status}: {said}")
-            return Answers(tuple(filter(PRINTED.fullmatch, ended.out.splitlines())), numbers_in(Image.read(load(out), out)))
+            image = Image.read(load(out), out)
+            # the votes at the end make the three copies of an object equal, so that the first is enough
+            objects = tuple((one.name, image.cells(one.name)[0]) for one in image.objects if one.name.startswith("x"))
+            return Answers(tuple(filter(PRINTED.fullmatch, ended.out.splitlines())), objects)
 
     def run(self, rate: float, seed: int, right: Answers) -> Run:
         flips = text_of(drawn(self.cells, rate, seed))
         return Run(seed, flips.count("\n"), self.answers(flips) == right)
-
-
-def numbers_in(image: Image) -> tuple[tuple[str, bytes], ...]:
-    """The numbers of each object; the votes at the end make its three copies equal, so that the first is enough."""
-    return tuple((one.name, image.cells(one.name)[0]) for one in image.objects if one.name.startswith("x"))
 
 
 def interval(right: int, runs: int) -> tuple[float, float]:
