@@ -1,11 +1,12 @@
 #!/usr/bin/env python3
 """Row commands at one width: as compiled, after `simplify`, and as `optimise` leaves them, with the time of the search.
 
-Run it at the top of the repository:  python3 bench/optimise.py [--width 4] [--simplified] [--beside] [--work W] [--seed S]
+Run it at the top of the repository:  python3 bench/optimise.py [--width 4] [--simplified | --both] [--others 1-9,16,32] [--beside] ..
 It compiles one op of each word operation and the ops of bench/kernels (with --simplified the texts that `simplify` makes of
-these), calls `optimise` for each op alone, on all processors but one, and has `verify` look at what comes out. It prints a
-line for each op and the sums, and ends with 1 where an op takes more than before or `verify` does not say right. With
---beside it prints only how many changes a second are tried on the word operations, by `optimise` and by walk.cpp in turn.
+these, with --both each text and that one, and the better of the two), calls `optimise` for each op alone, on all processors but
+one, or on --jobs, and has `verify` look at what comes out, and with --others at these widths too, where `unknown` is no fault. It
+prints a line for each op and the sums, and ends with 1 where an op takes more than before or `verify` finds fault. With --beside
+it prints only how many changes a second are tried on the word operations, by `optimise` and by walk.cpp in turn.
 """
 
 from __future__ import annotations
@@ -31,6 +32,8 @@ KERNELS = sorted((HERE / "kernels").glob("*.ops"))
 # how many changes are timed of `optimise`, and for how long walk.cpp runs
 BESIDE_CHANGES = 2_000_000
 BESIDE_SECONDS = 1.0
+# how `verify` ends where it does not know
+UNKNOWN = 20
 ROW = "| {:11} | {:>6} | {:>6} | {:>8.2f} | {:>5.2f} |"
 
 
@@ -66,18 +69,33 @@ def seconds_used(command) -> float:
     return used.ru_utime
 
 
-def shortened(path, text, asked) -> Shorter:
-    """What `optimise` makes of an op."""
+def is_right(path, ops, prog, asked) -> bool:
+    """Whether `verify` says right at the width, and finds nothing wrong at others."""
+    def status(widths) -> int:
+        return subprocess.run([path, "verify", ops, prog, widths], capture_output=True, check=False).returncode
+
+    return status(str(asked.width)) == 0 and (not asked.others or status(asked.others) in (0, UNKNOWN))
+
+
+def shortened(path, text, asked, start="") -> Shorter:
+    """What `optimise` makes of an op, from its own text or another of the same meaning."""
     with tempfile.TemporaryDirectory() as folder:
-        ops, prog, new = (pathlib.Path(folder) / name for name in ("ops", "prog", "new"))
-        ops.write_text(text, encoding="utf-8")
+        ops, own, prog, new = (pathlib.Path(folder) / name for name in ("ops", "own", "prog", "new"))
+        ops.write_text(start or text, encoding="utf-8")
+        own.write_text(text, encoding="utf-8")
         subprocess.run([path, "compile", ops, prog], check=True, capture_output=True)
         more = [str(asked.seed), str(asked.work)] if asked.work else [str(asked.seed)]
         width = str(asked.width)
         seconds = seconds_used([path, "optimise", ops, prog, width, new, *more])
-        verdict = subprocess.run([path, "verify", ops, new, width], capture_output=True, text=True, check=False)
         name = re.match(r"\s*op\s+(\w+)", text)[1]
-        return Shorter(name, commands_of(path, prog, width), commands_of(path, new, width), seconds, verdict.returncode == 0)
+        return Shorter(name, commands_of(path, prog, width), commands_of(path, new, width), seconds, is_right(path, own, new, asked))
+
+
+def better(path, text, asked) -> Shorter:
+    """The better of two starts: the text, and what `simplify` makes of it."""
+    one, other = shortened(path, text, asked), shortened(path, text, asked, simplified(text))
+    least = min((found for found in (one, other) if found.is_right), key=lambda found: found.after, default=one)
+    return Shorter(one.name, one.before, least.after, one.seconds + other.seconds, least.is_right)
 
 
 def speeds(path, made, text, asked) -> str:
@@ -130,16 +148,21 @@ def main() -> int:
     made.add_argument("--seed", type=int, default=1)
     made.add_argument("--work", type=int, default=0, help="changes for each command, in place of the program's own number")
     made.add_argument("--simplified", action="store_true")
+    made.add_argument("--both", action="store_true", help="each kernel from its text and from the one of `simplify`: the better of both")
+    made.add_argument("--others", metavar="N,N-N,..", help="widths at which what comes out is looked at too")
+    made.add_argument("--jobs", type=int, default=max(1, (os.cpu_count() or 2) - 1))
+    made.add_argument("--only", choices=("words", "kernels"), help="one of the two groups")
     made.add_argument("--beside", action="store_true")
     asked = made.parse_args()
     path = program.path_of(asked)
     if asked.beside:
         return beside(path, asked)
     kernels = [text for file in KERNELS for text in ops_of(file.read_text(encoding="utf-8"))]
-    groups = {"Word operations": [op(one) for one in word_ops()],
-              "bench/kernels": [simplified(text) for text in kernels] if asked.simplified else kernels}
-    with concurrent.futures.ThreadPoolExecutor(max(1, (os.cpu_count() or 2) - 1)) as pool:
-        results = {title: list(pool.map(lambda text: shortened(path, text, asked), texts)) for title, texts in groups.items()}
+    groups = {"Word operations": [op(one) for one in word_ops()] * (asked.only != "kernels"),
+              "bench/kernels": (list(map(simplified, kernels)) if asked.simplified else kernels) * (asked.only != "words")}
+    with concurrent.futures.ThreadPoolExecutor(asked.jobs) as pool:
+        results = {title: list(pool.map(lambda text, find=better if asked.both and title != "Word operations" else shortened:
+                                        find(path, text, asked), texts)) for title, texts in groups.items() if texts}
     return 0 if all([table(f"{title}, n = {asked.width}", found) for title, found in results.items()]) else 1
 
 

@@ -30,10 +30,12 @@ class Chip:
     A bank holds 64 * words elements of an array, one in each column. `cost` is all that the chip has done until now: the row
     commands of its scripts and scans, those that make objects too, and the rows that the host has written to place arrays and
     has read for `numpy()`, sums and products of matrices; `host_writes` and `host_reads` are these rows alone, over all banks. With `simplify` the text of each op is
-    simplified at its width and compared with what was meant (docs/NUMPY.md, "Simpler texts").
+    simplified at its width and compared with what was meant (docs/NUMPY.md, "Simpler texts"). With `optimise`, a width or several,
+    ops of this width are done by fewer row commands, as `simdram optimise` finds them ("Fewer commands at one width").
     """
 
-    def __init__(self, banks: int = 1, rows: int = 1006, words: int = 64, simplify: bool = False) -> None:
+    def __init__(self, banks: int = 1, rows: int = 1006, words: int = 64, simplify: bool = False,
+                 optimise: int | typing.Iterable[int] = ()) -> None:
         try:
             self.image = Image(*map(operator.index, (banks, rows, words)))
         except ValueError as fault:
@@ -41,7 +43,8 @@ class Chip:
         self.banks, self.rows, self.words = self.image.banks, self.image.rows, self.image.words
         self.host_writes = self.host_reads = 0
         self._spent = Cost(busiest=(0, 0))
-        self._names, self._texts = itertools.count(1), Texts(simplify)
+        widths = [cells.checked_width(width) for width in ([optimise] if isinstance(optimise, int) else optimise)]
+        self._names, self._texts = itertools.count(1), Texts(simplify, widths)
         self._gone: list[str] = []
 
     def __repr__(self) -> str:

@@ -5,6 +5,7 @@ import dataclasses
 import re
 import typing
 
+from ..files.program import Entry
 from .cutting import Part, can_join
 from .expressions import Constant, Held, Step, Value
 from .layout import Join, Product, Slice, whole_of
@@ -114,20 +115,28 @@ class Scripts:
         """The name of the op that does a part; equal texts are one op, and a script has at most 32."""
         own = None if can_join(part.steps[0]) else part.steps[0].operation
         text = own.text if own else text_of("e", part)
-        # a text that is simplified is so for its width
-        is_simplified = self.simpler.is_simplified and own is None
-        key = renamed(text, "e"), (part.width or 1) if is_simplified else 0
+        # a text that is simplified or optimised is so for its width
+        width = part.width or 1
+        key = renamed(text, "e"), width if own is None and self.simpler.is_for(width) else 0
         if key not in self.ops:
             taken = self.ops.values()
             self.ops[key] = own.name if own and own.name not in taken else self._fresh(taken)
         if isinstance(own, OwnProgram):
-            self._add_program(own, self.ops[key])
+            self._add_entry(own.entry, own.text, self.ops[key])
             self.written[own.text] = None
         else:
-            compiled = self.simpler.compiled(*key) if own is None else text
-            self._add_text(renamed(compiled, self.ops[key]))
+            self._add_op(key, text if own else "", self.ops[key])
             self.written[renamed(text, self.ops[key])] = None
         return self.ops[key]
+
+    def _add_op(self, key: tuple[str, int], own: str, name: str) -> None:
+        """The op of a text at a width is one of the script's, under a name: an op of the designer's own as it stands."""
+        entry = None if own else self.simpler.entry(*key)
+        text = renamed(own or self.simpler.compiled(*key), name)
+        if entry:
+            self._add_entry(entry, text, name)
+        else:
+            self._add_text(text)
 
     def _add_text(self, text: str) -> None:
         """The op of a text is one of the script's."""
@@ -135,12 +144,12 @@ class Scripts:
             self._make_room()
             self.scripts[-1].texts.append(text)
 
-    def _add_program(self, own: OwnProgram, name: str) -> None:
-        """A program is one of the script's, under a name."""
-        if all(entry.name != name for entry in self.scripts[-1].entries):
+    def _add_entry(self, entry: Entry, text: str, name: str) -> None:
+        """An entry is one of the script's, under a name, with the text that it is shown by."""
+        if all(one.name != name for one in self.scripts[-1].entries):
             self._make_room()
-            self.scripts[-1].entries.append(dataclasses.replace(own.entry, name=name))
-            self.scripts[-1].programs.append(own.text)
+            self.scripts[-1].entries.append(dataclasses.replace(entry, name=name))
+            self.scripts[-1].programs.append(text)
 
     def _make_room(self) -> None:
         """A new script, where the one in hand has as many ops as a program file."""

@@ -2,23 +2,38 @@
 
 import functools
 import hashlib
+import typing
 
+from ..files.program import Entry
 from ..launcher import run_program
 from ..launcher.faults import Fault
 from ..launcher.settings import taken
 from ..simplify.simplifier import Options, Simplifier
 from ..simplify.statement_cache import folder, load_json, store_json, sum_of
+from .optimised import Programs
 
 # in which time an op's text is simplified
 SECONDS = 10.0
 
 
 class Texts:
-    """From the text of an op as it is meant to the text that is compiled: the same where the chip does not simplify."""
+    """From the text of an op as it is meant to the text that is compiled: the same where the chip does not simplify; and to an
+    entry of few commands, at widths at which the chip asks for one."""
 
-    def __init__(self, is_simplified: bool = False) -> None:
+    def __init__(self, is_simplified: bool = False, optimised: typing.Iterable[int] = ()) -> None:
         self.is_simplified = is_simplified
+        self.programs = Programs(optimised)
         self.known: dict[tuple[str, int], str] = {}
+
+    def is_for(self, width: int) -> bool:
+        """Whether what is compiled for a text depends on this width."""
+        return self.is_simplified or width in self.programs.widths
+
+    def entry(self, text: str, width: int) -> Entry | None:
+        """The entry of few commands for a text at a width, or nothing where the chip does not ask for one."""
+        if width not in self.programs.widths:
+            return None
+        return self.programs.entry(text, self.compiled(text, width), width, run_program.program(taken([])[0]), self._program_sum)
 
     def compiled(self, text: str, width: int) -> str:
         """The text that is compiled for a text at a width."""

@@ -2,7 +2,8 @@
 
 import dataclasses
 
-from ..files.program import BNEZ, LARGEST, SETN, SUBI, Entry, Instruction
+from ..files.program import BNEZ, LARGEST, SETN, SUBI, Entry
+from .at_width import earlier
 
 # how many instructions stand before such a program's own, and how many after them
 BEFORE, AFTER = 3, 2
@@ -22,9 +23,7 @@ def one_width(entry: Entry) -> int | None:
 
 def own(entry: Entry) -> Entry:
     """The entry without the instructions that check its width: the target of each jump stands earlier by those before."""
-    return dataclasses.replace(entry, code=tuple(
-        Instruction(one.kind, one.raw[:2] + (one.number - BEFORE).to_bytes(2, "little") + one.raw[4:]) if one.kind == BNEZ else one
-        for one in entry.code[BEFORE:len(entry.code) - AFTER]))
+    return dataclasses.replace(entry, code=earlier(entry.code[BEFORE:len(entry.code) - AFTER], BEFORE))
 
 
 def other_width(entry: Entry, n: int) -> str:

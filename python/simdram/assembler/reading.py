@@ -1,10 +1,12 @@
 """From a program to its text: for a reader, with cells and operands by their names, labels, and loops where that is the same; or
 in the raw layer, the lines of a listing, each entry below its head."""
 
+import contextlib
 import typing
 
 from ..files.program import B_ADDRESS, BNEZ, C_ADDRESS, INDEXED, OPERANDS, REGISTERS, Entry, Instruction, Program, Row
 from ..rules.answer import Breach
+from .at_width import choice, choices
 from .names import address_text
 from .one_width import one_width, own
 from .walks import Stuck, walk
@@ -54,22 +56,29 @@ def flat_lines(entry: Entry) -> list[str]:
     return lines
 
 
+def body_lines(entry: Entry, lines_of: typing.Callable[[Entry], list[str]]) -> list[str]:
+    """The statements of an entry: an `if` for each width that it has a straight line for, and the code of all others."""
+    found = choice(entry)
+    if found is None:
+        return lines_of(entry)
+    here, elsewhere = lines_of(found.here), body_lines(found.elsewhere, lines_of)
+    return [f"  if n == {found.width} {{", *(f"  {line}" for line in here), "  } else {", *(f"  {line}" for line in elsewhere), "  }"]
+
+
 def readable_lines(entry: Entry) -> list[str]:
     """The text of an entry: with loops where that does the same commands at these widths, else with labels. Where it is for one
-    width, `width` says so, and the instructions that check it are left out."""
+    width, `width` says so, and the instructions that check it are left out; where it has a line for a width, an `if` does."""
     from .structuring import Unstructured, structured_lines
     scratch = ", ".join([f"t{k}: bit" for k in range(entry.bits)] + [f"w{k}: word" for k in range(entry.words)])
     head, width = [head_line(entry), *[f"scratch {scratch}"] * bool(scratch)], one_width(entry)
-    code = entry if width is None else own(entry)
-    with_width = head if width is None else [*head, f"width {width}"]
-    try:
-        lines = [*with_width, *structured_lines(code)]
-        if is_same(lines, entry, WIDTHS if width is None else (width,)):
-            return lines
-    except Unstructured:
-        pass
-    lines = [*with_width, *flat_lines(code)]
-    return lines if width is None or is_same(lines, entry, (width,)) else [*head, *flat_lines(entry)]
+    code, said = (entry, []) if width is None else (own(entry), [f"width {width}"])
+    widths = (width,) if width else (*WIDTHS, *(one.width for one in choices(entry)[0]))
+    for lines_of in (structured_lines, flat_lines):
+        with contextlib.suppress(Unstructured):
+            lines = [*head, *said, *body_lines(code, lines_of)]
+            if is_same(lines, entry, widths):
+                return lines
+    return [*head, *flat_lines(entry)]
 
 
 def is_same(lines: list[str], entry: Entry, widths: typing.Iterable[int]) -> bool:

@@ -52,7 +52,10 @@ class Word:
 
 @dataclasses.dataclass(frozen=True)
 class Command:
-    """A command: its name and arguments, what it does, an example; a tool has its form as text, and its module."""
+    """A command: its name and arguments, what it does, an example; a tool has its form as text, and its module.
+
+    A command of the program may have flags, each with what it says; with a runner, a module of the launcher calls the program for it.
+    """
 
     name: str
     words: tuple[Word, ...]
@@ -60,6 +63,8 @@ class Command:
     example: str
     module: str = ""
     form: str = ""
+    flags: tuple[tuple[str, str], ...] = ()
+    runner: str = ""
 
     @property
     def is_program(self) -> bool:
@@ -68,7 +73,7 @@ class Command:
 
     def usage(self) -> str:
         """The command line, with a name for each argument."""
-        return self.form or " ".join([self.name, *(word.form for word in self.words)])
+        return self.form or " ".join([self.name, *(word.form for word in self.words), *(f"[{flag}]" for flag, _ in self.flags)])
 
     def has_all(self, count: int) -> bool:
         """Whether so many arguments may be all of the command's."""
@@ -97,7 +102,8 @@ PROGRAM = (
     Command("optimise", (OPS, PROG, Word("N", "one width"), Word("NEW", "program", True), Word("SEED", "walk", is_optional=True),
                          Word("WORK", "work", is_optional=True)),
             "writes a program of fewer row commands at width N, found by a search and each entry checked as by verify; at other widths it "
-            "is PROG's", "optimise mac.ops mac.prog 8 mac8.prog"),
+            "is PROG's. A call again goes on from NEW", "optimise mac.ops mac.prog 8 mac8.prog",
+            flags=(("--rows", "reserve only the rows of scratch that commands name, where verify then says right"),), runner="optimise.search"),
     Command("show", (OPS,), "prints the text in its canonical form, or its first fault", "show mac.ops"),
     Command("list", (PROG,), "prints the microprograms of a program file, instruction by instruction", "list mac.prog"),
     Command("scan", (Word("QUERY", "query"), IMAGE), "counts the elements that match a query, by comparisons inside the chip",
@@ -156,7 +162,7 @@ TOOLS = (
             "link PROG PROG .. OUT"),
     Command("simplify", (), "writes a text with the same ops for fewer row commands, each compared with what it was for all inputs",
             "simplify mac.ops simpler.ops", "simplify.simplify_tool",
-            "simplify OPS [NEW] [--widths N,N,..] [--seconds S] [--rows] [--unvalidated]"),
+            "simplify OPS [NEW] [--widths N,N,..] [--width N PROG] [--seconds S] [--rows] [--unvalidated]"),
     Command("build", (), "builds the program without proofs if none is built, and prints the path of the program that runs", "build",
             "launcher.build_tool", "build"),
     Command("prove", (), "proves every crate that is not proved yet, builds the proved program, and prints its path", "prove", "launcher.prove",

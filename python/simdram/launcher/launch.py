@@ -2,6 +2,7 @@
 
 import contextlib
 import errno
+import importlib
 import os
 import stat
 
@@ -56,22 +57,32 @@ def tell_unread(command: Command, words: list[str]) -> None:
             say(f"cannot read {text}: {reason}")
 
 
+def done(command: Command, program: str, words: list[str], flags: list[str], settings: Settings) -> int:
+    """Has the program do a command, and returns its status."""
+    if command.runner:
+        return importlib.import_module(f"..{command.runner}", __package__).run(program, words[1:], flags, settings)
+    written = overwrite.Written(words, settings)
+    written.keep()
+    return run_program.follow(program, written.words, written.settle)
+
+
 def launch(words: list[str], settings: Settings) -> int:
     """Runs a command of the program."""
     command = ALL.get(words[0]) if words else None
-    is_whole = command is not None and command.is_program and command.has_all(len(words) - 1)
+    flags = [word for word in words[1:] if word in dict(command.flags)] if command else []
+    is_whole = command is not None and command.is_program and command.has_all(len(words) - 1 - len(flags))
     refusal = overwrite.refusal(command, words[1:]) if is_whole and not settings.force else None
     wrong = wrong_words(words)
     if wrong:
         return refused_words(wrong, words, settings)
+    words = [word for word in words if word not in flags]
     if refusal:
         say(refusal)
         return WRONG
     tell_unread(command, words[1:])
     program = run_program.program(settings)
-    after, written = Aftermath(command, words[1:], settings), overwrite.Written(words, settings)
-    written.keep()
-    status = run_program.follow(program, written.words, written.settle)
+    after = Aftermath(command, words[1:], settings)
+    status = done(command, program, words, flags, settings)
     if status == USAGE_STATUS:
         say(form(words))
     elif status:

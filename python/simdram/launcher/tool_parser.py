@@ -33,7 +33,7 @@ class Option(typing.NamedTuple):
     more: dict[str, typing.Any]
 
 
-def option(name: str, metavar: str = "", help: str = "", **more: typing.Any) -> Option:
+def option(name: str, metavar: str | tuple[str, ...] = "", help: str = "", **more: typing.Any) -> Option:
     said = {key: text for key, text in (("metavar", metavar), ("help", help)) if text}
     return Option(name, {**said, **more})
 

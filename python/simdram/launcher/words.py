@@ -64,9 +64,9 @@ class WordsParser(Parser):
     def error(self, message: str) -> typing.NoReturn:
         raise WrongWords(message)
 
-    def taken(self, words: list[str]) -> None:
+    def taken(self, words: list[str], flags: typing.Collection[str] = ()) -> None:
         """Raises what is wrong with the words."""
-        _, more = self.parse_known_args([f"{self.MARK}{text}" for text in words])
+        _, more = self.parse_known_args([text if text in flags else f"{self.MARK}{text}" for text in words])
         if more:
             raise WrongWords(f"{more[0][len(self.MARK):]} is one argument too many")
 
@@ -93,6 +93,8 @@ def parser_of(command: Command) -> WordsParser:
                        epilog=f"  simdram {command.example}\n\ndocs/FORMATS.md, How a command ends, has its statuses.")
     for word in command.words:
         made.add_argument(word.name, type=functools.partial(checked, word.kind), help=help_on(word), nargs="?" if word.is_optional else None)
+    for flag, says in command.flags:
+        made.add_argument(flag, action="store_true", help=says)
     return made
 
 
@@ -134,7 +136,7 @@ def wrong_words(words: list[str]) -> str | None:
         near = nearest(words[0], [*ALL, "help"])
         return f"there is no command {words[0] or repr('')}" + (f"; did you mean {' or '.join(near)}?" if near else "")
     try:
-        parser_of(command).taken(words[1:])
+        parser_of(command).taken(words[1:], dict(command.flags))
     except WrongWords as wrong:
         return str(wrong)
-    return wrong_together(command, words[1:])
+    return wrong_together(command, [word for word in words[1:] if word not in dict(command.flags)])

@@ -9,11 +9,16 @@ equal at a width, it stays, or with --unvalidated it is taken, and a comment say
 the op stays, both texts are shown, and the status is 1. The time is in processor seconds, so that a busy machine finds what an
 idle one does; if it is over, the best text so far is taken. What statements
 cost is kept in ~/.cache/simdram, or in the folder that SIMDRAM_CACHE names, for later calls.
+
+With --width N PROG the texts are those of the least cost at N, and PROG is written too: a program with the fewest row commands at N that
+`optimise` finds from OPS or from the new text, for each op the better of both. `verify` finds its entries right by OPS at N. A line
+for each op has the commands of OPS and of PROG at N. This search takes some five processor seconds for 100 commands, beside --seconds.
 """
 
 import os
 import sys
 
+from ..files.program import Program
 from ..files.store import load
 from ..launcher import run_program
 from ..launcher.faults import Fault
@@ -21,11 +26,14 @@ from ..launcher.overwrite import check, write
 from ..launcher.settings import Settings
 from ..launcher.tool_parser import Asked, flag, option, tool
 from ..launcher.widths import widths_of
+from ..launcher.words import wrong_number
+from ..optimise.two_starts import fewest
 from ..rules import answers
 from .outcome import WRONG, Outcome, new_text
 from .simplifier import SECONDS, Options, Simplifier
 
 FAULTY = 1
+WIDTHS = "4,8,16,32"
 
 
 def check_words(asked: Asked, settings: Settings) -> None:
@@ -38,6 +46,20 @@ def check_words(asked: Asked, settings: Settings) -> None:
         if os.path.exists(asked.ops) and os.path.samefile(asked.ops, asked.new):
             raise Fault(f"{asked.new} is OPS itself; NEW is another file")
         check(asked.new, "ops", settings)
+    if asked.width:
+        wrong = wrong_number("one width", asked.width[0])
+        if wrong:
+            raise Fault(f"N of --width is {wrong}")
+        check(asked.width[1], "program", settings)
+
+
+def write_program(program: str, asked: Asked, written: bytes, simpler: bytes, settings: Settings) -> None:
+    """Writes the program of the fewest commands at one width, and says what it takes."""
+    n, prog = int(asked.width[0]), asked.width[1]
+    found = fewest(program, written, simpler, n)
+    write(prog, Program([one.entry for one in found]).file(), "program", settings)
+    lines = [*(one.line() for one in found), f"optimised {sum(one.after < one.before for one in found)} of {len(found)} at {n}"]
+    print("\n".join(lines), file=sys.stdout if asked.new else sys.stderr)
 
 
 def fault_of(path: str, data: bytes, settings: Settings) -> int:
@@ -55,14 +77,16 @@ def show_wrong(one: Outcome, before: bytes) -> None:
 
 
 @tool("OPS", "[NEW]",
-      option("--widths", "N,N,..", "where no op is dearer, and is compared", default="4,8,16,32"),
+      option("--widths", "N,N,..", "where no op is dearer, and is compared; 4,8,16,32 unless given, or N of --width"),
+      option("--width", ("N", "PROG"), "also write a program of the fewest commands at the width N", nargs=2),
       option("--seconds", "S", "in how many processor seconds all ops are done, this tool's and its calls' together; 40 unless given",
              type=float, default=SECONDS),
       flag("--rows", "take no text of more scratch rows"),
       flag("--unvalidated", "take texts that are not known to be equal, with a comment"))
 def main(asked: Asked, settings: Settings) -> int:
-    options = Options(tuple(widths_of(asked.widths)), asked.seconds, asked.rows, asked.unvalidated)
     check_words(asked, settings)
+    widths = asked.widths or (asked.width[0] if asked.width else WIDTHS)
+    options = Options(tuple(widths_of(widths)), asked.seconds, asked.rows, asked.unvalidated)
     simplifier = Simplifier(run_program.program(settings), options)
     data = load(asked.ops, "ops")
     status = fault_of(asked.ops, data, settings)
@@ -79,4 +103,6 @@ def main(asked: Asked, settings: Settings) -> int:
         print(one.line(before), file=sys.stdout if asked.new else sys.stderr)
         if one.kind == WRONG:
             show_wrong(one, before)
+    if asked.width:
+        write_program(simplifier.program, asked, data, text, settings)
     return FAULTY if any(one.kind == WRONG for one in outcomes) else 0

@@ -3,6 +3,7 @@
 import bisect
 import typing
 
+from ..assembler.at_width import branch
 from ..assembler.one_width import one_width, other_width
 from ..files.decode import CELLS
 from ..files.program import REGISTERS, RESULT, SOURCE, Entry, Row
@@ -55,7 +56,7 @@ class Execution:
                  ones: typing.Collection[str] | None = None) -> None:
         column = Column(entry, width, numbers, ones)
         self.moments: list[Moment] = list(column.run())
-        self.path, self.firsts = column.path, column.firsts
+        self.width, self.path, self.firsts = width, column.path, column.firsts
         sources, results = ([rows.base(Row(space, which, REGISTERS)) for which in range(count)]
                             for space, count in ((SOURCE, len(numbers)), (RESULT, len(entry.results))))
         given = ", ".join(f"{name} = {number}" for name, number in zip(sources, numbers))
@@ -99,12 +100,12 @@ def counted_by(part: Part, registers: typing.Sequence[int]) -> list[tuple[str, i
 
 
 def execution(entry: Entry, text: OpText | None, numbers: str, width: int | None, ones: typing.Collection[str] | None = None) -> Execution:
-    """The execution of an entry on numbers that are given by the operands' names, from a start at which these cells and rows
-    hold 1 and the others 0, or, where none are given, are not known."""
+    """The execution of what an entry does at the width of numbers that are given by the operands' names, from a start at which
+    these cells and rows hold 1 and the others 0, or, where none are given, are not known."""
     rows = text.names() if text else RowNames(None)
     names = [rows.base(Row(SOURCE, which, REGISTERS)) for which in range(len(entry.sources))]
     values, chosen = numbers_of(numbers, names, entry.sources, width or one_width(entry))
     other = other_width(entry, chosen)
     if other:
         raise Fault(f"{other}, and not for {chosen}")
-    return Execution(entry, chosen, values, rows, ones)
+    return Execution(branch(entry, chosen), chosen, values, rows, ones)

@@ -21,6 +21,9 @@ it is said which iteration of each loop that is. An iteration of a loop with tur
 A bit that no command has set yet is not shown. With --from it is: the cells and rows that are named hold 1 at the start, and the
 others 0, so that a case of `verify`, as `gives 2 not 1 from T3`, is walked through as it fails.
 
+An entry that begins with a test of the width, as `optimise` writes it, is shown as it is done at the width of the numbers, or of
+--width; without both, as it is done where no test names the width.
+
 It prints a table for each part. With --html it writes one page instead that steps through the commands by the arrow keys,
 with cells coloured by what they hold; the page loads nothing.
 """
@@ -29,6 +32,7 @@ import dataclasses
 import textwrap
 import typing
 
+from ..assembler.at_width import branch, choice, choices
 from ..assembler.text_lines import TextLines, text_lines
 from ..files.decode import CELLS
 from ..files.program import Entry, Program
@@ -163,10 +167,19 @@ def ones_of(start: str | None) -> list[str] | None:
     return [name for name in start.replace(",", " ").split() if name]
 
 
+def of_widths(entry: Entry, n: int | None) -> str:
+    """At which widths an entry does what is shown, where it begins with tests of the width."""
+    widths = [one.width for one in choices(entry)[0]]
+    if not widths:
+        return ""
+    return f"at the width {n} alone" if n in widths else f"at all widths but {' and '.join(map(str, sorted(widths)))}"
+
+
 @tool("PROG", "OP",
       option("--ops", "OPS", "the operation text that PROG was compiled from"),
       option("--with", "A=N,B=N", "a number for each operand: cells show their bits", dest="numbers"),
-      option("--width", "N", "the width with --with; else the first of 8, 16, .. that holds the numbers", type=int),
+      option("--width", "N", "the width with --with, else the first of 8, 16, .. that holds the numbers; "
+             "and which code of an entry is shown that has a straight line for a width", type=int),
       option("--from", "T3,t0", "with --with: the cells and rows that hold 1 at the start, as a verdict "
              "names them, or `zeros`; the others hold 0", dest="start"),
       option("--iteration", "K", "which iteration of each part shows bits in the tables", type=int, default=1),
@@ -176,7 +189,7 @@ def main(asked: Asked, settings: Settings) -> None:
         entry = Program.load(asked.prog).find(asked.op)
     except KeyError as fault:
         raise Fault(f"{asked.prog}: {fault.args[0]}") from None
-    if asked.width is not None and not (asked.numbers and 1 <= asked.width <= 128):
+    if asked.width is not None and not ((asked.numbers or choice(entry)) and 1 <= asked.width <= 128):
         raise Fault("--width goes with --with, and is 1 to 128")
     if asked.iteration < 1:
         raise Fault("--iteration is 1 or more")
@@ -184,11 +197,13 @@ def main(asked: Asked, settings: Settings) -> None:
     if asked.start is not None and not asked.numbers:
         raise Fault("--from goes with --with")
     run = execution(entry, text, asked.numbers, asked.width, ones_of(asked.start)) if asked.numbers else None
-    view = View(entry, text, run, asked.iteration, text_lines(asked.prog, entry))
-    said = [one for one in (text.other if text else "", run.said if run else "") if one]
+    width = run.width if run else asked.width
+    shown = branch(entry, width)
+    view = View(shown, text, run, asked.iteration, text_lines(asked.prog, entry) if shown is entry else None)
+    said = [one for one in (text.other if text else "", run.said if run else "", of_widths(entry, width)) if one]
     if asked.html:
         write(asked.html, page(asked.op, view.shown, said, run is not None).encode(), "page", settings)
-        return 0
+        return
     for one in said:
         print(one)
     for one in view.shown:

@@ -1,0 +1,64 @@
+"""Entries that begin with a test of the width: at one width they do one code, and at all others another, as `optimise` writes them."""
+
+import dataclasses
+import typing
+
+from ..files.program import AAP, AP, BNEZ, DONE, SETI, SETN, SUBI, Entry, Instruction
+
+# how many instructions the test has, and how many stand between its first code and its second
+TEST, BETWEEN = 8, 2
+NO_JUMPS = (SETI, AAP, AP, DONE)
+
+
+class Choice(typing.NamedTuple):
+    """A width, the entry that is done at it, and the one that is done at all others."""
+
+    width: int
+    here: Entry
+    elsewhere: Entry
+
+
+def made(kind: int, register: int, number: int = 0) -> Instruction:
+    """An instruction of a register and a number."""
+    return Instruction(kind, bytes([kind, register, *number.to_bytes(2, "little")]).ljust(8, b"\0"))
+
+
+def test(n: int, other: int) -> tuple[Instruction, ...]:
+    """The test of the width n, which goes to a place where it is another."""
+    return (made(SETN, 0), made(SETI, 1, n), made(BNEZ, 0, 4), made(BNEZ, 1, other), made(SUBI, 0, 1), made(SUBI, 1, 1), made(BNEZ, 1, 2),
+            made(BNEZ, 0, other))
+
+
+def earlier(code: typing.Iterable[Instruction], by: int) -> tuple[Instruction, ...]:
+    """Instructions before which so many others are left out: each jump leads to an earlier place."""
+    return tuple(made(BNEZ, one.register, one.number - by) if one.kind == BNEZ else one for one in code)
+
+
+def choice(entry: Entry) -> Choice | None:
+    """The choice that an entry begins with, or nothing."""
+    if len(entry.code) <= TEST + BETWEEN:
+        return None
+    n, other = entry.code[1].number, entry.code[3].number
+    own, line = other + BETWEEN, entry.code[TEST:other]
+    begins = entry.code[:TEST] == test(n, other) and entry.code[other:own] == (made(SETI, 0), made(SETI, 1))
+    if not begins or not line or line[-1].kind != DONE or any(one.kind not in NO_JUMPS for one in line):
+        return None
+    rest = entry.code[own:]
+    if not rest or any(one.kind == BNEZ and one.number < own for one in rest):
+        return None
+    return Choice(n, dataclasses.replace(entry, code=line), dataclasses.replace(entry, code=earlier(rest, own)))
+
+
+def choices(entry: Entry) -> tuple[list[Choice], Entry]:
+    """All choices that an entry begins with, and the entry that is done at all other widths."""
+    found = []
+    while made_of := choice(entry):
+        found.append(made_of)
+        entry = made_of.elsewhere
+    return found, entry
+
+
+def branch(entry: Entry, n: int | None) -> Entry:
+    """The entry that is done at a width; without one that of all widths which no choice names."""
+    found, rest = choices(entry)
+    return next((one.here for one in found if one.width == n), rest)

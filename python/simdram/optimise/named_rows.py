@@ -1,0 +1,48 @@
+"""Heads that reserve only the rows of scratch that a command names; `verify` has to find each such entry right."""
+
+import dataclasses
+
+from ..files.program import BIT, WORD, Entry, Instruction, Program
+from ..files.store import folder_of
+from ..launcher import run_program
+from ..rules.verdicts import verdicts_of
+
+# where the space of a command's first row stands in its bytes, and where that of its second
+PLACES = (1, 4)
+
+
+def with_fewer_rows(entry: Entry) -> Entry:
+    """The entry with the bits and the words of scratch that its commands name, numbered anew in their order."""
+    named = {(row.space, row.which) for one in entry.code for row in one.rows}
+    kept = {space: sorted(which for of, which in named if of == space) for space in (BIT, WORD)}
+
+    def renamed(one: Instruction) -> Instruction:
+        raw = bytearray(one.raw)
+        for at, row in zip(PLACES, one.rows):
+            if row.space in kept:
+                raw[at + 1] = kept[row.space].index(row.which)
+        return Instruction(one.kind, bytes(raw))
+
+    return dataclasses.replace(entry, bits=len(kept[BIT]), words=len(kept[WORD]), code=tuple(map(renamed, entry.code)))
+
+
+def scratch(entry: Entry, n: int) -> int:
+    """How many rows of scratch an entry reserves at a width."""
+    return entry.bits + n * entry.words
+
+
+def with_named_rows(path: str, ops: str, file: bytes, n: int) -> tuple[bytes, str]:
+    """A program file with such heads, where `verify` finds their entries right at the width, and what is said of them."""
+    old = Program.read(file).entries
+    new = list(map(with_fewer_rows, old))
+    with folder_of(prog=Program(new).file()) as folder:
+        ended = run_program.run(["verify", ops, f"{folder}/prog", n], path=path)
+    right = {verdict.name for verdict in verdicts_of(ended.out) if verdict.is_right}
+    taken = [made if made.name in right else entry for entry, made in zip(old, new)]
+    lines = []
+    for entry, made in zip(old, new):
+        before, after = scratch(entry, n), scratch(made, n)
+        if after < before:
+            said = f"{before} to {after}, right at {n}" if made.name in right else f"{before} as they were, as verify does not say right"
+            lines.append(f"{entry.name} rows {said}\n")
+    return Program(taken).file(), "".join(lines)

@@ -1,0 +1,153 @@
+"""The command `optimise`: the program searches for one entry after another, several at a time, and goes on from a NEW that it wrote.
+
+So there is something to tell while it searches, and what was found is stored also where the call is interrupted. The files and the
+words of a call say what comes of it: no clock is read.
+"""
+
+import os
+import re
+import typing
+
+from ..assembler.at_width import choice
+from ..files.fault import FileFault, NotWritten
+from ..files.program import Entry, Program
+from ..files.store import LIMITS, folder_of, store
+from ..launcher import run_program
+from ..launcher.overwrite import why_not_written, write
+from ..launcher.parallel import in_parallel
+from ..launcher.say import say
+from ..launcher.settings import Settings
+from .named_rows import with_named_rows
+
+# the seed, and how many changes are tried for each command: about five processor seconds for 100 commands
+SEED, WORK = 1, 50_000
+# what is said of an entry that `verify` does not find right
+NOT_RIGHT = ("wrong", "bad_walk", "other_kinds", "unknown")
+SHORTER = re.compile(r"\w+ (\d+) to (\d+)")
+
+
+class Asked(typing.NamedTuple):
+    """What is searched for: by which ops, at which width, with which seed, by how many changes for each command."""
+
+    ops: str
+    width: int
+    seed: int = SEED
+    work: int = WORK
+
+
+class Found(typing.NamedTuple):
+    """An entry as it is after a search, and the line that says what became of it."""
+
+    entry: Entry
+    line: str
+
+    @property
+    def is_shorter(self) -> bool:
+        return SHORTER.fullmatch(self.line) is not None
+
+
+class Refused(Exception):
+    """The program refused a file, or ended otherwise without a result."""
+
+    def __init__(self, ended: run_program.Ended) -> None:
+        super().__init__(ended.out)
+        self.ended = ended
+
+
+def of_entry(path: str, asked: Asked, entry: Entry) -> Found:
+    """What the program finds for one entry."""
+    with folder_of(prog=Program([entry]).file()) as folder:
+        words = ["optimise", asked.ops, f"{folder}/prog", asked.width, f"{folder}/new", asked.seed, asked.work]
+        ended = run_program.run(words, path=path)
+        if ended.status:
+            raise Refused(ended)
+        return Found(Program.load(f"{folder}/new").entries[0], ended.out.splitlines()[0])
+
+
+class Search:
+    """A search for the entries of a program, in order; those that are not done stand as they were."""
+
+    def __init__(self, path: str, asked: Asked, entries: typing.Sequence[Entry]) -> None:
+        self.path, self.asked = path, asked
+        self.found = [Found(entry, f"{entry.name} as it was") for entry in entries]
+        self.before = list(entries)
+
+    def run(self) -> None:
+        """Searches on all processors."""
+        in_parallel(self.search, range(len(self.found)), "optimise")
+
+    def search(self, k: int) -> None:
+        """Searches for one entry."""
+        self.found[k] = of_entry(self.path, self.asked, self.before[k])
+
+    def file(self) -> bytes:
+        """The program file of what was found; where it were too long, entries that grew most stand as they were."""
+        by_growth = sorted(range(len(self.found)), key=lambda k: len(self.before[k].code) - len(self.found[k].entry.code))
+        for k in [-1, *by_growth]:
+            if k >= 0:
+                self.found[k] = Found(self.before[k], f"{self.before[k].name} as it was")
+            made = Program([one.entry for one in self.found]).file()
+            if len(made) <= LIMITS["program"]:
+                return made
+        raise AssertionError("the program fits without a line")
+
+    def report(self) -> str:
+        """The lines of all entries, and the last line, as the program writes them."""
+        last = f"optimised {sum(one.is_shorter for one in self.found)} of {len(self.found)} at {self.asked.width}"
+        return "".join(f"{line}\n" for line in [*(one.line for one in self.found), last])
+
+
+def is_made_of(new: Entry, entry: Entry) -> bool:
+    """Whether an entry is another one with straight lines for some widths before it."""
+    before = choice(new)
+    while new != entry and before:
+        new, before = before.elsewhere, choice(before.elsewhere)
+    return new == entry
+
+
+def entries_of(prog: str, new: str) -> tuple[list[Entry], bool]:
+    """The entries to search from, and whether they are those of NEW: where what stands there was made of PROG by this command."""
+    entries = Program.load(prog).entries
+    try:
+        made = Program.load(new).entries if os.path.isfile(new) else []
+    except FileFault:
+        made = []
+    is_own = len(made) == len(entries) and all(map(is_made_of, made, entries))
+    return (made, True) if is_own else (entries, False)
+
+
+def keep(new: str, found: bytes, is_own: bool, settings: Settings) -> None:
+    """Stores what was found. What stood there is kept first by the one rule for files, unless the search went on from it."""
+    if is_own:
+        store(new, found, True)
+    else:
+        write(new, found, "program", settings)
+
+
+def run(path: str, words: typing.Sequence[str], flags: typing.Collection[str], settings: Settings) -> int:
+    """Does the command with these words, and returns its status."""
+    ops, prog, width, new, *numbers = words
+    try:
+        entries, is_own = entries_of(prog, new)
+    except FileFault:
+        entries = []
+    if not entries:  # the program says what is wrong with PROG, or that nothing is to be done
+        return run_program.follow(path, ["optimise", *words])
+    reason = why_not_written(new, 0)
+    if reason:
+        raise NotWritten(new, "", "cannot write", reason)
+    search = Search(path, Asked(ops, int(width), *map(int, numbers)), entries)
+    try:
+        search.run()
+    except Refused as refused:
+        print(refused.ended.out, end="")
+        return refused.ended.status
+    except KeyboardInterrupt:
+        keep(new, search.file(), is_own, settings)
+        raise
+    found, lines = with_named_rows(path, ops, search.file(), int(width)) if "--rows" in flags else (search.file(), "")
+    keep(new, found, is_own, settings)
+    print(search.report() + lines, end="", flush=True)
+    if any(one.line.split()[-1] in NOT_RIGHT for one in search.found):
+        say(f"simdram explain {ops} {prog} {width} says what is wrong, or what is not known")
+    return 0
