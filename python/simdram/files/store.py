@@ -150,17 +150,12 @@ def keep(path: str, name: str = "") -> str:
         kept = free_name(name or path)
         os.replace(new, kept)
     with contextlib.suppress(OSError):
-        sync_folder(os.path.dirname(kept) or ".")
+        folder = os.open(os.path.dirname(kept) or ".", os.O_RDONLY)
+        try:
+            os.fsync(folder)
+        finally:
+            os.close(folder)
     return kept
-
-
-def sync_folder(path: str) -> None:
-    """Waits until the disk has a folder's names."""
-    folder = os.open(path, os.O_RDONLY)
-    try:
-        os.fsync(folder)
-    finally:
-        os.close(folder)
 
 
 def holds_same(first: str, second: str) -> bool:

@@ -91,8 +91,8 @@ class Progress:
         self.at += 1
 
 
-def rt_in(crate: str, verb: str, progress: Progress) -> list[str]:
-    """Runs a command of rt on a crate and returns what it printed; a fault if it fails."""
+def rt_in(crate: str, verb: str, progress: Progress) -> None:
+    """Runs a command of rt on a crate; a fault if it fails, after what it printed."""
     lines: list[str] = []
     with subprocess.Popen(["rt", verb], cwd=home() / "crates" / crate, stdin=subprocess.DEVNULL, stdout=subprocess.PIPE,
                           stderr=subprocess.STDOUT, text=True, errors="replace") as running:
@@ -105,12 +105,9 @@ def rt_in(crate: str, verb: str, progress: Progress) -> list[str]:
             running.wait()
             raise
     progress.end()
-    return lines if running.returncode == 0 else give_up(crate, lines)
-
-
-def give_up(crate: str, lines: list[str]):
-    sys.stderr.write("".join(lines))
-    raise NoProgram(f"{crate} is not proved")
+    if running.returncode:
+        sys.stderr.write("".join(lines))
+        raise NoProgram(f"{crate} is not proved")
 
 
 def prove() -> None:

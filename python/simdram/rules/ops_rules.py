@@ -323,10 +323,17 @@ class Reader:
 
     def gate(self, token: Token, depth: int) -> Expr:
         """A gate inside so many others."""
-        self.check_gate(token, depth)
+        name, block = token.text, self.shape.last_statement
+        if name not in word_ops.GATES:
+            right = [f"the gates: {listed(word_ops.GATES)}"]
+            if name in word_ops.TAKES_GIVES:
+                right.insert(0, f"{name} is a word operation: it needs a statement of its own, outside of blocks")
+            raise Breach(token, "unknown", f"there is no gate {name}{near(name, word_ops.GATES)}", *right)
+        block.weight += word_ops.WEIGHTS[name]
+        self.limit(token, block.weight - 1, WEIGHT, "the gates of a block weigh at most {}: and, or, maj 1 each, xor 3, not 0")
+        self.limit(token, depth, DEPTH, "gates nest at most {} deep")
         self.take("`(`", "(")
-        name, args = token.text, [self.value(depth + 1)]
-        takes = word_ops.GATES[name]
+        args, takes = [self.value(depth + 1)], word_ops.GATES[name]
         while True:
             after = self.take("`,` and one more argument, or `)`", ",", ")")
             if after.text == ")":
@@ -337,18 +344,6 @@ class Reader:
         if len(args) < takes:
             raise Breach(after, "kind", f"{name} has too few arguments", f"{name} takes {takes}")
         return gate(name, *args)
-
-    def check_gate(self, token: Token, depth: int) -> None:
-        """Refuses a name that is no gate, and one gate too many."""
-        name, block = token.text, self.shape.last_statement
-        if name not in word_ops.GATES:
-            right = [f"the gates: {listed(word_ops.GATES)}"]
-            if name in word_ops.TAKES_GIVES:
-                right.insert(0, f"{name} is a word operation: it needs a statement of its own, outside of blocks")
-            raise Breach(token, "unknown", f"there is no gate {name}{near(name, word_ops.GATES)}", *right)
-        block.weight += word_ops.WEIGHTS[name]
-        self.limit(token, block.weight - 1, WEIGHT, "the gates of a block weigh at most {}: and, or, maj 1 each, xor 3, not 0")
-        self.limit(token, depth, DEPTH, "gates nest at most {} deep")
 
 
 def read_shapes(data: bytes) -> list[OpShape]:

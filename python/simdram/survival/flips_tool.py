@@ -42,11 +42,6 @@ class Cells:
     columns: int
     instructions: int
 
-    @classmethod
-    def of(cls, table: Table, instructions: int) -> "Cells":
-        """Those of an image with this head."""
-        return cls(table.banks, table.rows, 64 * table.words, instructions)
-
     @property
     def chances(self) -> int:
         """How often a cell may flip, over all cells and instructions."""
@@ -96,7 +91,8 @@ def rate_of(text: str) -> float:
 
 def cells_of(script: str, image: str) -> Cells:
     """The cells of an image before the instructions of a script."""
-    return Cells.of(Table.read(load(image, "image")[:HEAD_MAX], image), len(loaded_script(script)[0]))
+    table = Table.read(load(image, "image")[:HEAD_MAX], image)
+    return Cells(table.banks, table.rows, table.columns, len(loaded_script(script)[0]))
 
 
 def seed_of(text: str) -> int:
