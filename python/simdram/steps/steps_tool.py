@@ -160,13 +160,6 @@ class View:
         return Shown(part, done, lines, names.said, subscripts, start, bits, when)
 
 
-def ones_of(start: str | None) -> list[str] | None:
-    """The cells and rows that hold 1 at the start, where it is said."""
-    if start is None or start == "zeros":
-        return None if start is None else []
-    return [name for name in start.replace(",", " ").split() if name]
-
-
 def of_widths(entry: Entry, n: int | None) -> str:
     """At which widths an entry does what is shown, where it begins with tests of the width."""
     widths = [one.width for one in choices(entry)[0]]
@@ -196,7 +189,8 @@ def main(asked: Asked, settings: Settings) -> None:
     text = of_entries(asked.prog, [entry], asked.ops, settings)[entry.name]
     if asked.start is not None and not asked.numbers:
         raise Fault("--from goes with --with")
-    run = execution(entry, text, asked.numbers, asked.width, ones_of(asked.start)) if asked.numbers else None
+    start = None if asked.start is None else asked.start.replace(",", " ").split()
+    run = execution(entry, text, asked.numbers, asked.width, [] if start == ["zeros"] else start) if asked.numbers else None
     width = run.width if run else asked.width
     shown = branch(entry, width)
     view = View(shown, text, run, asked.iteration, text_lines(asked.prog, entry) if shown is entry else None)
