@@ -26,7 +26,6 @@ def end_with_reader() -> None:
 
 
 def tool(command: Command, words: list[str], settings: Settings) -> int:
-    """Runs a tool."""
     end_with_reader()
     return importlib.import_module(f".{command.module}", __package__).main(words, settings)
 

@@ -14,11 +14,12 @@ from test_words import called
 from simdram.files.from_hex import bytes_in
 from simdram.files.image import Image, Object
 from simdram.files.program import Program
-from simdram.files.table import HEAD_MAX, Table
+from simdram.files.image import HEAD_MAX, Table
 from simdram.rules import word_ops
 from simdram.rules.answers import first_fault, no_triples, query_refusals, script_refusals
-from simdram.rules.flips_rules import explain_flips
-from simdram.rules.ops_rules import explain_ops
+from simdram.rules.answer import first_breach
+from simdram.rules.flips_rules import check_flips
+from simdram.rules.ops_rules import read_ops
 from simdram.rules.query_rules import read_query
 from simdram.rules.script_rules import read_script
 
@@ -81,9 +82,9 @@ QUERIES = (
 class Texts(unittest.TestCase):
     """Wrong texts of each kind get a line that names the token, and what would be right."""
 
-    def check_all(self, explained, cases):
+    def check_all(self, read, cases):
         for text, kind, place, token, right in cases:
-            answer = explained("file", text.encode())
+            answer = first_breach("file", text.encode(), read)
             self.assertIsNotNone(answer, text)
             self.assertEqual((answer.kind, answer.place), (kind, place), text)
             column, length = answer.caret
@@ -93,13 +94,13 @@ class Texts(unittest.TestCase):
             self.assertLessEqual(max(map(len, lines)), 110, text)
 
     def test_ops(self):
-        self.check_all(explain_ops, OPS)
+        self.check_all(read_ops, OPS)
 
     def test_scripts(self):
-        self.check_all(lambda path, data: read_script(path, data)[1], SCRIPTS)
+        self.check_all(read_script, SCRIPTS)
 
     def test_queries(self):
-        self.check_all(lambda path, data: read_query(path, data)[1], QUERIES)
+        self.check_all(read_query, QUERIES)
 
     def test_flips(self):
         table = Table(1, 64, 1, [])
@@ -107,17 +108,17 @@ class Texts(unittest.TestCase):
                  ("2 0 0 0\n1 0 0 0", "number", "the K of the line before"), ("1 0 0 0 0", "syntax", "four numbers"), ("1, 0", "syntax", "without commas"),
                  ("1 1 0 0", "number", "BANK is 0 to 0"), ("@", "lex", "no token"))
         for text, kind, right in cases:
-            answer = explain_flips("file", text.encode(), 3, table)
+            answer = first_breach("file", text.encode(), check_flips, 3, table)
             self.assertEqual(answer.kind, kind, text)
             self.assertIn(right, " ".join(answer.lines()), text)
-        self.assertIsNone(explain_flips("file", b"1 0 0 0\n# none\n4 0 63 63", 3, table))
+        self.assertIsNone(first_breach("file", b"1 0 0 0\n# none\n4 0 63 63", check_flips, 3, table))
 
     def test_right_texts(self):
         for path in (TOP / "examples").rglob("*.ops"):
             if path.name not in ("faulty.ops", "nested.ops"):
-                self.assertIsNone(explain_ops(path.name, path.read_bytes()), path)
+                self.assertIsNone(first_breach(path.name, path.read_bytes(), read_ops), path)
         for path in (TOP / "examples").rglob("*.bbop"):
-            self.assertIsNone(read_script(path.name, path.read_bytes())[1], path)
+            self.assertIsNone(first_breach(path.name, path.read_bytes(), read_script), path)
 
     def test_files(self):
         image = (TOP / "examples" / "and" / "and.img").read_bytes()
@@ -287,7 +288,7 @@ class AsTheProgram(unittest.TestCase):
         for _ in range(120):
             text = changed(self.dice, self.dice.choice(texts), others)
             (self.folder / "f.ops").write_text(text)
-            self.assertEqual(self.last("show", "f.ops")[0], self.line("ops", explain_ops("f.ops", text.encode())), text)
+            self.assertEqual(self.last("show", "f.ops")[0], self.line("ops", first_breach("f.ops", text.encode(), read_ops)), text)
 
     def test_scripts(self):
         lines = [line for path in sorted((TOP / "examples").rglob("*.bbop")) for line in path.read_text().splitlines()]
@@ -300,7 +301,7 @@ class AsTheProgram(unittest.TestCase):
             text = changed(self.dice, "\n".join(self.dice.sample(lines, 2) + self.dice.sample(lines[-5:], 1)), others)
             (self.folder / "s").write_text(text)
             said, ended = self.last("run", "f.ops", "p", "s", "i.img", "o.img")
-            answer = read_script("s", text.encode())[1]
+            answer = first_breach("s", text.encode(), read_script)
             self.assertEqual(said if ended.returncode == 6 else "ok", self.line("script", answer), text)
 
     def test_refusals(self):
@@ -341,7 +342,7 @@ class AsTheProgram(unittest.TestCase):
             text = "\n".join(" ".join(line) + self.dice.choice(["", "", "", " # c", " @", ", 1"]) for line in lines)
             (self.folder / "w").write_text(text)
             said, ended = self.last("guard", "f.ops", "p", "s", "i.img", "w", "o.img")
-            answer = explain_flips("w", text.encode(), 3, Table(1, 64, 1, []))
+            answer = first_breach("w", text.encode(), check_flips, 3, Table(1, 64, 1, []))
             self.assertEqual(said if ended.returncode == 18 else "ok", self.line("flips", answer), text)
 
     def test_a_full_table(self):

@@ -19,9 +19,9 @@ from simdram.graphs.least_gates import expressions, text
 from simdram.graphs.mig import Graph
 from simdram.graphs.netlist import in_order
 from simdram.graphs.splitting import split
-from simdram.graphs.mig_formats import Ands, as_aiger, as_blif, as_dot
+from simdram.graphs.mig import Ands, as_aiger, as_blif, as_dot
 from simdram.launcher.faults import Fault
-from simdram.rules.ops_rules import explain_ops, shapes_of
+from simdram.rules.ops_rules import read_ops, shapes_of
 
 ABC = shutil.which("berkeley-abc") or shutil.which("abc")
 OPS = """op sum(a: word, b: word) -> y: word { serial up (c = 0) { let x = xor(a, b); y = xor(x, c); c = maj(a, b, c); } }
@@ -340,7 +340,7 @@ class Netlists(Folder):
             wanted = in_positions(net, words)
             for one in nets:
                 self.assertTrue(len(one.sources) <= 4 and len(one.words) <= 2)
-                self.assertIsNone(explain_ops("own", Block(one, "net", [], {}, len(nets) == 1).text(one.name, "up").encode()))
+                self.assertEqual(len(read_ops(Block(one, "net", [], {}, len(nets) == 1).text(one.name, "up").encode())), 1)
                 words.update(in_positions(one, words))
             self.assertEqual({name: words[name] for name in wanted}, wanted)
         self.assertGreater(several, 60)

@@ -51,7 +51,7 @@ class Pictures(unittest.TestCase):
         self.assertEqual(stepped(64, 10), [0, 10, 20, 30, 40, 50, 60])
         self.assertEqual([number(one) for one in (1334, 70.0, 1e-06, 39.684)], ["1,334", "70", "1e-06", "39.68"])
         rates = Picture([Line("a", [(2e-6, 1), (3e-4, 0)], "#000")], "x", "y", True)
-        self.assertEqual([round(mark, 9) for mark in rates.x_marks()], [1e-5, 1e-4])
+        self.assertEqual([round(mark, 9) for mark in rates.x.marks(10)], [1e-5, 1e-4])
         self.assertEqual(rates.place(2e-6, 0)[0] + 720, rates.place(3e-4, 0)[0])
 
     def test_names_are_escaped(self):

@@ -1,13 +1,11 @@
 """Functions of arrays that have a program file of one entry, and their costs."""
 
 import operator
-import os
-import tempfile
 import typing
 
 from ..costs.costs import EntryCost, costs_at
 from ..costs.profile import Profile, profiles
-from ..files.store import store
+from ..files.store import folder_of
 from ..launcher.settings import taken
 from .array import Array
 from .cells import checked_width
@@ -43,17 +41,12 @@ class Counted:
     def costs(self, widths: typing.Iterable[int]) -> dict[int, EntryCost]:
         """Its cost at each of these widths."""
         asked = [checked_width(operator.index(bits)) for bits in widths]
-        with tempfile.TemporaryDirectory(prefix="simdram_") as folder:
-            path = os.path.join(folder, "prog")
-            store(path, self.program)
-            found = costs_at([path], asked, taken([])[0])
-        return {bits: found[path, bits][0] for bits in asked}
+        with folder_of(prog=self.program) as folder:
+            found = costs_at([f"{folder}/prog"], asked, taken([])[0])
+        return {bits: found[f"{folder}/prog", bits][0] for bits in asked}
 
     def profile(self, bits: int) -> Profile:
         """Its row commands in one bank at a width, by statement, where it has an operation text, and by loop."""
-        with tempfile.TemporaryDirectory(prefix="simdram_") as folder:
-            path, text = os.path.join(folder, "prog"), os.path.join(folder, "ops")
-            store(path, self.program)
-            if self.ops_text is not None:
-                store(text, self.ops_text.encode())
-            return profiles(path, [checked_width(operator.index(bits))], taken([])[0], None if self.ops_text is None else text, True)[0]
+        with folder_of(prog=self.program, ops=(self.ops_text or "").encode()) as folder:
+            ops = None if self.ops_text is None else f"{folder}/ops"
+            return profiles(f"{folder}/prog", [checked_width(operator.index(bits))], taken([])[0], ops, True)[0]

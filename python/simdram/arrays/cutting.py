@@ -57,17 +57,12 @@ class Pieces:
         placed: set[int] = set()
         for step in reversed(self.steps):
             if id(step) not in placed:
-                part = self._grown(step)
+                part, larger = None, Part([step], self.wanted)
+                while larger:
+                    part, larger = larger, self._larger(larger) if can_join(step) else None
                 placed |= {id(one) for one in part.steps}
                 self.wanted |= {id(value) for value in part.sources}
                 yield part
-
-    def _grown(self, root: Step) -> Part:
-        """The part of a step and of those below it that no other part reads, as far as they fit."""
-        part, larger = None, Part([root], self.wanted)
-        while larger:
-            part, larger = larger, self._larger(larger) if can_join(root) else None
-        return part
 
     def _larger(self, part: Part) -> Part | None:
         """The part with one more step; those are tried first that bring the fewest new sources."""

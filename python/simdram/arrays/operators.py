@@ -13,14 +13,25 @@ from .refusals import Refused
 Operator = typing.Callable[[typing.Any, typing.Any], typing.Any]
 
 
-def of_operation(name: str) -> tuple[Operator, Operator]:
-    """An operator that is an operation, and the same with its operands in the other order."""
-    return (lambda self, other: result_of(name, self, other)), (lambda self, other: result_of(name, other, self))
+def both_ways(function: Operator) -> tuple[Operator, Operator]:
+    """An operator on two operands, and the same with them in the other order."""
+    return (lambda self, other: function(self, other)), (lambda self, other: function(other, self))
 
 
-def of_division(part: typing.Callable[[tuple], typing.Any]) -> tuple[Operator, Operator]:
-    """An operator that is a part of quotient and remainder, and the same with its operands in the other order."""
-    return (lambda self, other: part(divided(self, other))), (lambda self, other: part(divided(other, self)))
+def of_one(name: str) -> typing.Callable[[typing.Any], typing.Any]:
+    """An operator on one operand that is an operation."""
+    return lambda self: result_of(name, self)
+
+
+def of_two(name: str) -> tuple[Operator, Operator]:
+    """The same of two operands, with them in the other order too."""
+    return both_ways(lambda first, second: result_of(name, first, second))
+
+
+def multiplied(first: typing.Any, second: typing.Any) -> typing.Any:
+    """The product of two matrices."""
+    from .summing import matmul
+    return matmul(first, second)
 
 
 class Operators:
@@ -33,29 +44,17 @@ class Operators:
 
     __hash__ = object.__hash__
 
-    __add__, __radd__ = of_operation("add")
-    __sub__, __rsub__ = of_operation("sub")
-    __mul__, __rmul__ = of_operation("mul")
-    __and__ = __rand__ = of_operation("and")[0]
-    __or__ = __ror__ = of_operation("or")[0]
-    __xor__ = __rxor__ = of_operation("xor")[0]
-    __floordiv__, __rfloordiv__ = of_division(operator.itemgetter(0))
-    __mod__, __rmod__ = of_division(operator.itemgetter(1))
-    __divmod__, __rdivmod__ = of_division(tuple)
-
-    def __matmul__(self, other):
-        from .summing import matmul
-        return matmul(self, other)
-
-    def __rmatmul__(self, other):
-        from .summing import matmul
-        return matmul(other, self)
-
-    def __invert__(self):
-        return result_of("not", self)
-
-    def __neg__(self):
-        return result_of("negative", self)
+    __add__, __radd__ = of_two("add")
+    __sub__, __rsub__ = of_two("sub")
+    __mul__, __rmul__ = of_two("mul")
+    __and__ = __rand__ = of_two("and")[0]
+    __or__ = __ror__ = of_two("or")[0]
+    __xor__ = __rxor__ = of_two("xor")[0]
+    __floordiv__, __rfloordiv__ = both_ways(lambda first, second: divided(first, second)[0])
+    __mod__, __rmod__ = both_ways(lambda first, second: divided(first, second)[1])
+    __divmod__, __rdivmod__ = both_ways(lambda first, second: divided(first, second))
+    __matmul__, __rmatmul__ = both_ways(multiplied)
+    __invert__, __neg__ = of_one("not"), of_one("negative")
 
     def __pos__(self):
         return self

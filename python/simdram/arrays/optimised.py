@@ -1,14 +1,11 @@
 """The programs of a chip's ops at the widths at which it asks for the fewest row commands, kept on disk."""
 
 import hashlib
-import os
-import tempfile
 import typing
 
 from ..files.fault import FileFault
 from ..files.program import Entry, Program
-from ..files.store import store
-from ..launcher import run_program
+from ..files.store import folder_of
 from ..optimise.two_starts import fewest, right_names
 from ..simplify.statement_cache import folder, load_json, store_json
 
@@ -41,8 +38,6 @@ def kept(found: typing.Any, what: dict[str, typing.Any], program: str) -> Entry 
         entries = Program.read(bytes.fromhex(found["entry"])).entries
     except (FileFault, ValueError, TypeError):
         return None
-    with tempfile.TemporaryDirectory(prefix="simdram_") as place:
-        ops = os.path.join(place, "ops")
-        store(ops, what["text"].encode())
-        right = right_names(program, ops, entries, place, what["width"])
+    with folder_of(ops=what["text"].encode()) as place:
+        right = right_names(program, f"{place}/ops", entries, what["width"])
     return entries[0] if len(entries) == 1 and entries[0].name in right else None

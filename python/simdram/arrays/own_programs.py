@@ -1,12 +1,11 @@
 """Programs of a designer's own, in the text for microprograms, as functions of arrays (docs/MICROPROGRAMS.md)."""
 
 import re
-import tempfile
 import warnings
 
 from ..assembler import Breach, assemble
 from ..files.program import Program
-from ..files.store import store
+from ..files.store import folder_of
 from ..launcher import run_program
 from ..rules.verdicts import VERIFIED, Verdict, verdicts_of
 from .counted import Counted
@@ -45,9 +44,7 @@ class OwnProgram(Counted):
         text = canonical(op)
         if len(OPS.findall(text)) != 1:
             raise ValueError("a program is verified against the text of one op")
-        with tempfile.TemporaryDirectory(prefix="simdram_") as folder:
-            store(f"{folder}/ops", renamed(text, self.name).encode())
-            store(f"{folder}/prog", self.program)
+        with folder_of(ops=renamed(text, self.name).encode(), prog=self.program) as folder:
             ended = run_program.run(["verify", "ops", "prog", bits], folder)
         if ended.status not in VERIFIED:
             raise Stopped("verify", ended, "ops", text)

@@ -208,20 +208,16 @@ def if_else(b, x, y, condition):
     if under("not", condition) is not None:
         return b.do("if_else", y, x, under("not", condition))
     if x.kind == BIT:
-        return if_else_of_bits(b, x, y, condition)
+        if number_of(x) is not None and number_of(y) is not None:
+            return condition if number_of(x) else b.do("not", condition)
+        if number_of(x) is not None:
+            return b.do("or", condition, y) if number_of(x) else b.do("and", b.do("not", condition), y)
+        if number_of(y) is not None:
+            return b.do("or", b.do("not", condition), x) if number_of(y) else b.do("and", condition, x)
+        return None
     if number_of(y) == 0:
         return b.do("zero_unless", x, condition)
     return b.do("zero_if", y, condition) if number_of(x) == 0 else None
-
-
-def if_else_of_bits(b, x, y, condition):
-    if number_of(x) is not None and number_of(y) is not None:
-        return condition if number_of(x) else b.do("not", condition)
-    if number_of(x) is not None:
-        return b.do("or", condition, y) if number_of(x) else b.do("and", b.do("not", condition), y)
-    if number_of(y) is not None:
-        return b.do("or", b.do("not", condition), x) if number_of(y) else b.do("and", condition, x)
-    return None
 
 
 def zero_unless(b, x, condition):

@@ -1,12 +1,11 @@
 """A script of bbops on an image, done by the program, and what its report says."""
 
 import re
-import tempfile
 import typing
 
 from ..files.image import Image
 from ..files.program import Entry, Program
-from ..files.store import load, store
+from ..files.store import folder_of, load, store
 from ..launcher import run_program
 from .costing import Cost, total
 from .expressions import each_once
@@ -75,10 +74,8 @@ class Done(typing.NamedTuple):
 
 def run(script: Script, image: Image) -> Done:
     """Does a script on an image; a line that the program refuses is raised, and the image stays."""
-    with tempfile.TemporaryDirectory(prefix="simdram_") as folder:
-        store(f"{folder}/ops", "".join(script.texts).encode())
-        store(f"{folder}/script", "".join(f"{line}\n" for line in script.lines).encode())
-        image.save(f"{folder}/image")
+    lines = "".join(f"{line}\n" for line in script.lines)
+    with folder_of(ops="".join(script.texts).encode(), script=lines.encode(), image=image.file()) as folder:
         if script.entries:
             store_program(script, folder)
             words = ["exec", "prog", "script", "image", "out"]

@@ -4,13 +4,11 @@ import copy
 import dataclasses
 import itertools
 import re
-import tempfile
 import typing
 
 from ..files.fields import NAME
-from ..files.image import Image, Object
-from ..files.store import store
-from ..files.table import Table
+from ..files.image import Image, Object, Table
+from ..files.store import folder_of
 from ..launcher import run_program
 from ..rules import answers
 from .array import Array
@@ -51,9 +49,7 @@ def scan(chip: Chip, query: str, /, **arrays: typing.Any) -> Count:
         kept.append(array)
         placed[name] = rows
     image = renamed(chip, list(placed.values()))
-    with tempfile.TemporaryDirectory(prefix="simdram_") as folder:
-        store(f"{folder}/query", query.encode())
-        image.save(f"{folder}/image")
+    with folder_of(query=query.encode(), image=image.file()) as folder:
         ended = run_program.run(["scan", "query", "image"], folder)
     counted = COUNTED.fullmatch(last_line(ended.out))
     if ended.status == 0 and counted:

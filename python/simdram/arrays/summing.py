@@ -25,7 +25,10 @@ def summed(array: Array, axis: int | None) -> Array:
     numbers = numbers.reshape(-1) if axis is None else numpy.moveaxis(numbers, axis, 0)
     made, current = array.chip.made(array), array
     while len(numbers) > 1:
-        current = halves_added(current, numbers, made)
+        # the sum of the first half and the second, to which zeros are added where the number is odd
+        half = (len(numbers) + 1) // 2
+        second = numpy.concatenate([numbers[half:], numpy.zeros_like(numbers[:2 * half - len(numbers)])])
+        current = moved(current, numbers[:half], made, read(current)) + moved(current, second, made, 0)
         made, numbers = array.chip.made(current), current.numpy()
     if current is array:
         current = moved(array, numbers, made, read(array))
@@ -43,13 +46,6 @@ def _axis(axis: int | None, count: int) -> int | None:
     if not -count <= axis < count:
         raise ValueError(f"axis {axis} of an array of {count} dimensions")
     return axis % count
-
-
-def halves_added(array: Array, numbers: numpy.ndarray, made: Made) -> Array:
-    """The sum of the first half and the second, to which zeros are added where the number is odd."""
-    half = (len(numbers) + 1) // 2
-    second = numpy.concatenate([numbers[half:], numpy.zeros_like(numbers[:2 * half - len(numbers)])])
-    return moved(array, numbers[:half], made, read(array)) + moved(array, second, made, 0)
 
 
 def read(array: Array) -> int:

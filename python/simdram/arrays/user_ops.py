@@ -2,9 +2,8 @@
 
 import functools
 import re
-import tempfile
 
-from ..files.store import load, store
+from ..files.store import folder_of, load
 from ..launcher import run_program
 from .counted import Counted
 from .refusals import Stopped
@@ -23,8 +22,7 @@ class Op(Counted):
     @functools.cached_property
     def program(self) -> bytes:
         """The program file that it is compiled to."""
-        with tempfile.TemporaryDirectory(prefix="simdram_") as folder:
-            store(f"{folder}/ops", self.text.encode())
+        with folder_of(ops=self.text.encode()) as folder:
             ended = run_program.run(["compile", "ops", "prog"], folder)
             if ended.status:
                 raise Stopped("compile", ended, "ops", self.text)
@@ -37,14 +35,9 @@ def split(text: str) -> list[Op]:
     return [Op(text[start:end]) for start, end in zip(starts, [*starts[1:], len(text)])]
 
 
-def ops(text: str) -> dict[str, Op]:
-    """The ops of a text, by name and in its order; a text that the program refuses is raised with its line and kind."""
-    return {one.name: one for one in split(canonical(text))}
-
-
 def op(text: str, name: str | None = None) -> Op:
     """The op of a text: the one of this name, or the only one."""
-    found = ops(text)
+    found = {one.name: one for one in split(canonical(text))}
     if name is None and len(found) == 1:
         return next(iter(found.values()))
     if name in found:
@@ -59,8 +52,7 @@ def canonical(text: str) -> str:
     """The canonical form of an operation text."""
     if not isinstance(text, str):
         raise TypeError(f"an op is a text, and not {type(text).__name__}")
-    with tempfile.TemporaryDirectory(prefix="simdram_") as folder:
-        store(f"{folder}/ops", text.encode())
+    with folder_of(ops=text.encode()) as folder:
         ended = run_program.run(["show", "ops"], folder)
     if ended.status:
         raise Stopped("show", ended, "ops", text)

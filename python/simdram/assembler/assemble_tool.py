@@ -11,12 +11,12 @@ from ..files.store import load
 from ..launcher.faults import WRONG
 from ..launcher.overwrite import write
 from ..launcher.settings import Settings
-from ..launcher.tool_parser import tool_parser
+from ..launcher.tool_parser import Asked, tool
 from . import Breach, assemble
 
 
-def main(words: list[str], settings: Settings) -> int:
-    asked = tool_parser("assemble", __name__, "TEXT", "PROG").parse_args(words)
+@tool("TEXT", "PROG")
+def main(asked: Asked, settings: Settings) -> None:
     data = load(asked.text, "micro")
     try:
         program = assemble(data)
@@ -25,4 +25,3 @@ def main(words: list[str], settings: Settings) -> int:
         return WRONG
     write(asked.prog, program.file(), "program", settings)
     print(f"assembled {len(program.entries)}")
-    return 0

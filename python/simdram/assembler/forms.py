@@ -31,7 +31,6 @@ class Form(typing.NamedTuple):
         return Form(self.number + factor * other.number, kept)
 
     def minus(self, other: "Form") -> "Form":
-        """The difference."""
         return self.plus(other, -1)
 
     def add(self, number: int) -> "Form":

@@ -26,7 +26,6 @@ class Tokens:
         return self.found[self.at]
 
     def next(self) -> Token:
-        """Takes a token."""
         token = self.here
         self.at += token.kind != END
         return token
@@ -60,11 +59,9 @@ class Tokens:
         return self.next()
 
     def name(self, what: str) -> Token:
-        """Takes a name."""
         return self.of_kind(NAME, what)
 
     def number(self, what: str) -> Token:
-        """Takes a number."""
         return self.of_kind(NUMBER, what)
 
     def at_line_end(self) -> bool:

@@ -4,13 +4,11 @@ So a script can name entries of the compiler and of a designer's own beside each
 are at most 32. OUT is a file of version 2.
 """
 
-import argparse
-
 from ..files.program import ENTRIES, Entry, Program
 from ..launcher.faults import Fault
 from ..launcher.overwrite import write
 from ..launcher.settings import Settings
-from ..launcher.tool_parser import tool_parser
+from ..launcher.tool_parser import Asked, option, tool
 
 
 def linked(paths: list[str]) -> Program:
@@ -28,18 +26,11 @@ def linked(paths: list[str]) -> Program:
     return Program(entries)
 
 
-def parser() -> argparse.ArgumentParser:
-    made = tool_parser("link", __name__)
-    made.add_argument("progs", metavar="PROG", nargs="+")
-    made.add_argument("out", metavar="OUT")
-    return made
-
-
-def main(words: list[str], settings: Settings) -> int:
-    asked = parser().parse_args(words)
+@tool(option("progs", "PROG", nargs="+"),
+      option("out", "OUT"))
+def main(asked: Asked, settings: Settings) -> None:
     if asked.out in asked.progs:
         raise Fault(f"{asked.out} is both linked and written; OUT is another file")
     program = linked(asked.progs)
     write(asked.out, program.file(), "program", settings)
     print(f"linked {len(program.entries)}")
-    return 0

@@ -120,7 +120,6 @@ class Lowering:
             self.statement(one)
 
     def statement(self, one: typing.Any) -> None:
-        """A statement."""
         self.token = one.token
         if isinstance(one, Command):
             self.command(one)
@@ -141,7 +140,6 @@ class Lowering:
             self.next(one)
 
     def command(self, one: Command) -> None:
-        """A row command."""
         rows = tuple(map(self.row, one.rows))
         forms = {operand.index for operand in one.rows if isinstance(operand.index, Form)}
         if len({row.index for row, operand in zip(rows, one.rows) if isinstance(operand.index, Form)}) < len(forms):

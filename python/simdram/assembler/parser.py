@@ -47,7 +47,6 @@ class Reader:
         self.labels: set[str] = set()
 
     def program(self) -> ProgramText:
-        """The program."""
         body: list[typing.Any] = []
         self.tokens.skip_lines()
         while self.tokens.here.kind != END and not self.tokens.is_at("program"):

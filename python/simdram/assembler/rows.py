@@ -17,9 +17,7 @@ ADDRESS = re.compile("([BC])([0-9]+)")
 def read_row(tokens: Tokens, names: Names, loops: list[str]) -> Operand:
     """The next row."""
     token = tokens.here
-    if tokens.is_at("{"):
-        return read_triple(tokens)
-    if tokens.is_at("~") or token.text in CELLS:
+    if tokens.is_at("{", "~") or token.text in CELLS:
         return read_cells(tokens)
     if token.kind != NAME:
         raise Breach(token, "syntax", f"{said(token)} stands where a row is expected", "as `T0`, `{T0, T1, T2}`, `a[i]` or `C0`")
@@ -50,26 +48,18 @@ def read_cell(tokens: Tokens) -> str:
 
 
 def read_cells(tokens: Tokens) -> Operand:
-    """One cell, or two that are written together."""
-    token, cells = tokens.here, [read_cell(tokens)]
-    while tokens.took("+"):
+    """One cell, two that are written together, or in braces three, whose majority is sensed."""
+    token, is_triple = tokens.here, tokens.took("{")
+    cells = [read_cell(tokens)]
+    while tokens.took("," if is_triple else "+"):
         cells.append(read_cell(tokens))
-    found = BY_CELLS.get(frozenset(cells)) if len(set(cells)) == len(cells) <= 2 else None
+    if is_triple:
+        tokens.expect("}", " after the cells")
+    is_whole = len(cells) == 3 if is_triple else len(set(cells)) == len(cells) <= 2
+    found = BY_CELLS.get(frozenset(cells)) if is_whole else None
     if found is None:
-        right = f"the pairs are {PAIRS}" if len(cells) == 2 else f"three cells are written as {TRIPLES}"
-        raise Breach(token, "row", f"no address raises {'+'.join(cells)}", right)
-    return Operand(token, B_ADDRESS, found)
-
-
-def read_triple(tokens: Tokens) -> Operand:
-    """Three cells, whose majority is sensed."""
-    token, cells = tokens.next(), [read_cell(tokens)]
-    while tokens.took(","):
-        cells.append(read_cell(tokens))
-    tokens.expect("}", " after the cells")
-    found = BY_CELLS.get(frozenset(cells)) if len(cells) == 3 else None
-    if found is None:
-        raise Breach(token, "row", f"no address raises {{{', '.join(cells)}}}", f"the triples are {TRIPLES}")
+        right = f"the triples are {TRIPLES}" if is_triple else f"the pairs are {PAIRS}" if len(cells) == 2 else f"three cells are written as {TRIPLES}"
+        raise Breach(token, "row", f"no address raises {{{', '.join(cells)}}}" if is_triple else f"no address raises {'+'.join(cells)}", right)
     return Operand(token, B_ADDRESS, found)
 
 

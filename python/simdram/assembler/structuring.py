@@ -107,7 +107,6 @@ class Structuring:
                                   if register not in set_there}, set_there)
 
     def loop(self, loop: Loop) -> None:
-        """A loop."""
         counter = self.code[loop.last].register
         if loop.steps.get(counter) != -1 or self.depth == len(VARIABLES):
             raise Unstructured

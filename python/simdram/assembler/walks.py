@@ -59,15 +59,16 @@ def walk(entry: Entry, n: int, turns: int = TURNS) -> list[tuple[Place, ...]]:
 
 def executions(code: typing.Sequence[Instruction], width: int) -> list[int]:
     """Of each instruction how often it is executed, where the execution comes to its end, as `cost` says."""
-    ends, registers = next_controls(code), Registers(width)
-    starts: collections.Counter[int] = collections.Counter()
-    at = 0
-    while True:
+    ends, registers, at = next_controls(code), Registers(width), 0
+    starts: collections.Counter[int] = collections.Counter([at])
+    while code[ends[at]].kind != DONE:
+        at = registers.next(ends[at], code[ends[at]])
         starts[at] += 1
-        end = ends[at]
-        if code[end].kind == DONE:
-            return spread(starts, ends)
-        at = registers.next(end, code[end])
+    found = [0] * len(code)
+    for start, times in starts.items():
+        for place in range(start, ends[start] + 1):
+            found[place] += times
+    return found
 
 
 def next_controls(code: typing.Sequence[Instruction]) -> list[int]:
@@ -75,13 +76,4 @@ def next_controls(code: typing.Sequence[Instruction]) -> list[int]:
     found = [0] * len(code)
     for at in reversed(range(len(code))):
         found[at] = found[at + 1] if code[at].kind in (AAP, AP) else at
-    return found
-
-
-def spread(starts: typing.Mapping[int, int], ends: typing.Sequence[int]) -> list[int]:
-    """Counts of each instruction from counts of the places at which runs of commands begin."""
-    found = [0] * len(ends)
-    for start, times in starts.items():
-        for at in range(start, ends[start] + 1):
-            found[at] += times
     return found

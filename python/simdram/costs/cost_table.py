@@ -11,12 +11,11 @@ from the second file on the ratio of its commands to the first file's.
 commands, rows and ratio, for each file. --total is a table for a paper: the commands alone, with a column for each width.
 """
 
-import argparse
 import os
 
 from ..launcher.faults import Fault
 from ..launcher.settings import Settings
-from ..launcher.tool_parser import tool_parser
+from ..launcher.tool_parser import Asked, flag, option, tool
 from ..launcher.widths import widths_of
 from .costs import EntryCost, costs_at
 from .table_formats import FORMATS, Rows
@@ -123,22 +122,16 @@ def names_of(text: str) -> list[str]:
     return [name for name in text.split(",") if name]
 
 
-def parser() -> argparse.ArgumentParser:
-    made = tool_parser("cost-table", __name__)
-    made.add_argument("progs", metavar="PROG", nargs="+", help="a program file; the ratios are to the first")
-    made.add_argument("--widths", default="8,16,32,64", metavar="N,N,..", help="widths and spans, as 4,8,16-20")
-    made.add_argument("--ops", default="", metavar="NAME,..", help="these entries alone")
-    made.add_argument("--columns", default="", metavar="NAME,..", help="these columns alone, beside the name and the width")
-    made.add_argument("--total", action="store_true", help="the commands alone, AAP and AP together, with a column for each width")
-    made.add_argument("--banks", type=int, default=1, help="over how many banks the elements stand, of one file")
-    made.add_argument("--words", type=int, default=1, help="words of a row, for the commands for each element, of one file")
-    made.add_argument("--format", choices=sorted(FORMATS), default="text", help="how the table is written")
-    made.add_argument("--csv", action="store_const", const="csv", dest="format", help="as --format csv")
-    return made
-
-
-def main(words: list[str], settings: Settings) -> int:
-    asked = parser().parse_intermixed_args(words)
+@tool(option("progs", "PROG", "a program file; the ratios are to the first", nargs="+"),
+      option("--widths", "N,N,..", "widths and spans, as 4,8,16-20", default="8,16,32,64"),
+      option("--ops", "NAME,..", "these entries alone", default=""),
+      option("--columns", "NAME,..", "these columns alone, beside the name and the width", default=""),
+      flag("--total", "the commands alone, AAP and AP together, with a column for each width"),
+      option("--banks", help="over how many banks the elements stand, of one file", type=int, default=1),
+      option("--words", help="words of a row, for the commands for each element, of one file", type=int, default=1),
+      option("--format", help="how the table is written", choices=sorted(FORMATS), default="text"),
+      option("--csv", help="as --format csv", action="store_const", const="csv", dest="format"))
+def main(asked: Asked, settings: Settings) -> None:
     if not (1 <= asked.banks <= 16 and 1 <= asked.words <= 1024):
         raise Fault("--banks is 1 to 16, and --words 1 to 1024")
     if len(asked.progs) > 1 and (asked.banks, asked.words) != (1, 1):
@@ -158,4 +151,3 @@ def main(words: list[str], settings: Settings) -> int:
     if asked.columns:
         rows = with_columns(rows, names_of(asked.columns))
     print(FORMATS[asked.format](rows), end="")
-    return 0

@@ -7,7 +7,6 @@ import typing
 from ..files.program import Program
 from ..files.store import store
 from ..launcher import run_program
-from ..launcher.faults import Fault
 from ..launcher.parallel import in_parallel
 from ..launcher.settings import Settings
 
@@ -45,7 +44,7 @@ def costs(path: str, width: int, settings: Settings, program: str | None = None)
     ended = run_program.run(["cost", path, str(width)], settings=settings, path=program)
     if ended.status:
         Program.load(path)  # where this is no program file, its own fault is told
-        raise Fault(f"cost {path} {width} ended with status {ended.status}: {ended.out.strip() or ended.err.strip()}")
+    ended.check(f"cost {path} {width}")
     return [cost_of(line) for line in ended.out.splitlines()]
 
 

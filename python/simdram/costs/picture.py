@@ -1,6 +1,7 @@
 """Pictures of curves, as SVG by this module alone or as PNG by matplotlib."""
 
 import dataclasses
+import functools
 import html
 import io
 import math
@@ -35,9 +36,27 @@ class Line:
         return f"{self.name}: {number(y)} at {number(x)}"
 
 
+class Axis(typing.NamedTuple):
+    """An axis: where it begins and ends, and whether it is logarithmic; a linear one begins at 0."""
+
+    first: float
+    last: float
+    is_log: bool
+
+    def along(self, value: float) -> float:
+        """How far along the axis a number stands, from 0 to 1."""
+        if not self.is_log:
+            return value / self.last if self.last else 0
+        reach = math.log(self.last / self.first)
+        return max(0.0, math.log(value / self.first) / reach) if value > 0 and reach > 0 else 0
+
+    def marks(self, most: int) -> list[float]:
+        return powers_of_ten(self.first, self.last) or [self.first] if self.is_log else stepped(self.last, most)
+
+
 @dataclasses.dataclass(frozen=True)
 class Picture:
-    """Curves with the names of their axes; the x axis is linear from 0, or logarithmic, and so is the y axis."""
+    """Curves with the names of their axes, and whether each axis is logarithmic."""
 
     lines: typing.Sequence[Line]
     x_name: str
@@ -45,51 +64,21 @@ class Picture:
     is_log: bool = False
     is_high_log: bool = False
 
-    @property
-    def last(self) -> float:
-        """The greatest x."""
-        return max(x for line in self.lines for x, _ in line.points)
+    @functools.cached_property
+    def x(self) -> Axis:
+        """The axis from left to right."""
+        numbers = [x for line in self.lines for x, _ in line.points]
+        return Axis(min(numbers) if self.is_log else 0, max(numbers), self.is_log)
 
-    @property
-    def first(self) -> float:
-        """Where the x axis begins."""
-        return min(x for line in self.lines for x, _ in line.points) if self.is_log else 0
-
-    @property
-    def top(self) -> float:
-        """Where the y axis ends."""
-        return max(1, *(y for line in self.lines for _, y in line.points))
-
-    @property
-    def bottom(self) -> float:
-        """Where the y axis begins: at 0, or at the power of ten below the least of a logarithmic one."""
-        least = min((y for line in self.lines for _, y in line.points if y > 0), default=1)
-        return 10.0 ** math.floor(math.log10(least) + 1e-9) if self.is_high_log else 0
-
-    def height(self, y: float) -> float:
-        """How high a number stands, from 0 to 1."""
-        if not self.is_high_log:
-            return y / self.top
-        reach = math.log(self.top / self.bottom)
-        return max(0.0, math.log(y / self.bottom) / reach) if y > 0 and reach > 0 else 0.0
+    @functools.cached_property
+    def y(self) -> Axis:
+        """The axis upwards; a logarithmic one begins at the power of ten below the least number."""
+        numbers = [y for line in self.lines for _, y in line.points]
+        least = min((y for y in numbers if y > 0), default=1)
+        return Axis(10.0 ** math.floor(math.log10(least) + 1e-9) if self.is_high_log else 0, max(1, *numbers), self.is_high_log)
 
     def place(self, x: float, y: float) -> tuple[float, float]:
-        if self.is_log:
-            reach = math.log(self.last / self.first)
-            along = math.log(x / self.first) / reach if reach else 0
-        else:
-            along = x / self.last if self.last else 0
-        return LEFT + WIDE * along, ABOVE + HIGH - HIGH * self.height(y)
-
-    def y_marks(self) -> list[float]:
-        if not self.is_high_log:
-            return stepped(self.top, 8)
-        return powers_of_ten(self.bottom, self.top)
-
-    def x_marks(self) -> list[float]:
-        if not self.is_log:
-            return stepped(self.last, 10)
-        return powers_of_ten(self.first, self.last) or [self.first]
+        return LEFT + WIDE * self.x.along(x), ABOVE + HIGH - HIGH * self.y.along(y)
 
 
 def powers_of_ten(first: float, last: float) -> list[float]:
@@ -122,12 +111,12 @@ def element(name: str, text: str | None = None, **attributes) -> str:
 
 def axes(picture: Picture) -> typing.Iterator[str]:
     """The two axes with their marks."""
-    for y in picture.y_marks():
-        at = picture.place(picture.first, y)[1]
-        yield element("line", x1=LEFT, y1=at, x2=LEFT + WIDE, y2=at, stroke="#222" if y == picture.bottom else "#ddd")
+    for y in picture.y.marks(8):
+        at = picture.place(picture.x.first, y)[1]
+        yield element("line", x1=LEFT, y1=at, x2=LEFT + WIDE, y2=at, stroke="#222" if y == picture.y.first else "#ddd")
         yield element("text", number(y), x=LEFT - 8, y=at + 5, text_anchor="end")
-    for x in picture.x_marks():
-        at, base = picture.place(x, picture.bottom)
+    for x in picture.x.marks(10):
+        at, base = picture.place(x, picture.y.first)
         yield element("line", x1=at, y1=base, x2=at, y2=base + 5, stroke="#222")
         yield element("text", number(x), x=at, y=base + 22, text_anchor="middle")
     yield element("text", picture.x_name, x=LEFT + WIDE, y=HIGH + ABOVE + 42, text_anchor="end")
@@ -162,7 +151,7 @@ def png(picture: Picture, out: str) -> bytes:
         xs, ys = zip(*((float(x), float(y)) for x, y in line.points))
         plane.plot(xs, ys, color=line.colour, linestyle="--" if line.is_dashed else "-", label=line.said,
                    marker="o" if len(xs) <= MARKED else None, markersize=4)
-    plane.set_ylim(bottom=picture.bottom)
+    plane.set_ylim(bottom=picture.y.first)
     plane.grid(axis="y", color="#ddd")
     plane.legend(loc="upper left", bbox_to_anchor=(1.01, 1), frameon=False)
     made = io.BytesIO()

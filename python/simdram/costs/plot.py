@@ -16,7 +16,7 @@ import typing
 from ..launcher.faults import Fault
 from ..launcher.say import say
 from ..launcher.settings import Settings
-from ..launcher.tool_parser import tool_parser
+from ..launcher.tool_parser import Asked, flag, option, tool
 from ..launcher.widths import widths_of
 from . import formulas, picture
 from .cost_table import labels_of, names_of, of_ops
@@ -102,21 +102,15 @@ def width(text: str) -> int:
     return int(text)
 
 
-def parser() -> argparse.ArgumentParser:
-    made = tool_parser("plot", __name__)
-    made.add_argument("files", metavar="PROG .. OUT", nargs="+", help="program files, and the picture, OUT.svg or OUT.png")
-    made.add_argument("--ops", default="", metavar="NAME,..", help="the entries to draw; all where none is given")
-    made.add_argument("--to", type=width, default=64, metavar="N", help="the greatest width, 1 to 128")
-    made.add_argument("--widths", metavar="N,N,..", help="widths and spans, as 4,8,16-20, in place of 1 to N")
-    made.add_argument("--column", choices=sorted(COLUMNS), default="commands", help="what is drawn; AAP and AP together unless given")
-    made.add_argument("--log", action="store_true", help="a logarithmic axis for the counts")
-    made.add_argument("--curve", action="append", default=[], metavar="NAME=FORMULA", help="a formula beside the entries")
-    made.add_argument("--ceiling", action="append", default=[], metavar="NAME=FORMULA", help="a formula in an entry's colour")
-    return made
-
-
-def main(words: list[str], settings: Settings) -> int:
-    asked = parser().parse_intermixed_args(words)
+@tool(option("files", "PROG .. OUT", "program files, and the picture, OUT.svg or OUT.png", nargs="+"),
+      option("--ops", "NAME,..", "the entries to draw; all where none is given", default=""),
+      option("--to", "N", "the greatest width, 1 to 128", type=width, default=64),
+      option("--widths", "N,N,..", "widths and spans, as 4,8,16-20, in place of 1 to N"),
+      option("--column", help="what is drawn; AAP and AP together unless given", choices=sorted(COLUMNS), default="commands"),
+      flag("--log", "a logarithmic axis for the counts"),
+      option("--curve", "NAME=FORMULA", "a formula beside the entries", action="append", default=[]),
+      option("--ceiling", "NAME=FORMULA", "a formula in an entry's colour", action="append", default=[]))
+def main(asked: Asked, settings: Settings) -> None:
     *progs, out = asked.files
     if not progs:
         raise Fault("plot takes program files and the picture's name after them: OUT is missing")
@@ -126,4 +120,3 @@ def main(words: list[str], settings: Settings) -> int:
     found = curves(list(dict.fromkeys(progs)), names_of(asked.ops), widths, asked.column, settings)
     lines = Lines(widths, asked.log).all(found, ceilings_of(asked.ceiling, found, widths), others)
     picture.write(Picture(lines, "width n", COLUMNS[asked.column], is_high_log=asked.log), out, settings)
-    return 0

@@ -6,22 +6,21 @@ which the code can jump. Commands that implement several statements in one loop 
 `times` says how often a part is executed; without an operation text there are parts alone. Counts are those of one bank.
 """
 
-import argparse
 import csv
 import dataclasses
 import io
-import os
-import tempfile
 
 from ..assembler.walks import executions
 from ..files.program import AAP, Entry, Program
-from ..files.store import load, store
+from ..files.store import folder_of, load
 from ..launcher import run_program
 from ..launcher.commands import MAGIC
 from ..launcher.faults import Fault
 from ..launcher.settings import Settings
-from ..launcher.tool_parser import tool_parser
+from ..launcher.tool_parser import Asked, flag, option, tool
 from ..launcher.widths import widths_of
+from ..rules.answer import first_breach
+from ..rules.ops_rules import read_ops
 from ..steps.code_parts import Part, parts
 from ..steps.op_texts import OpText, of_entries
 from .costs import EntryCost, costs_at
@@ -65,14 +64,9 @@ class Profile:
         return "\n".join(lines)
 
 
-def share(row: Row, whole: int) -> str:
-    """A row's share of all commands."""
-    return f"{100 * row.commands / whole:.1f}%" if whole else "-"
-
-
 def cells_of(row: Row, whole: int, has_times: bool) -> list[str]:
     numbers = [row.commands, row.aap, row.ap, *([row.times] if has_times else [])]
-    return [share(row, whole), *map(str, numbers), row.what]
+    return [f"{100 * row.commands / whole:.1f}%" if whole else "-", *map(str, numbers), row.what]
 
 
 def table(head: list[str], rows: tuple[Row, ...], whole: int) -> list[str]:
@@ -126,25 +120,17 @@ def profiles(path: str, widths: list[int], settings: Settings, ops: str | None =
 
 def of_file(path: str, widths: list[int], settings: Settings, ops: str | None = None) -> list[Profile]:
     """The profiles of a program file, or of an operation text, which is compiled into a file that is removed after it."""
-    if load(path).startswith(MAGIC["program"]):
+    data = load(path)
+    if data.startswith(MAGIC["program"]):
         return profiles(path, widths, settings, ops)
     if ops:
         raise Fault(f"{path} is no program file: --ops goes with one")
-    with tempfile.TemporaryDirectory(prefix="simdram_") as folder:
-        made = os.path.join(folder, "prog")
-        compile_text(path, made, settings)
-        return profiles(made, widths, settings, path, True)
-
-
-def compile_text(path: str, made: str, settings: Settings) -> None:
-    """Compiles an operation text; its fault is told as `explain` tells it."""
-    data = load(path)
-    store(f"{made}.ops", data)
-    ended = run_program.run(["compile", f"{made}.ops", made], settings=settings)
-    if ended.status:
-        from ..rules import answers
-        fault = answers.first_fault("ops", path, data)
-        raise Fault("\n".join(fault.lines()) if fault else f"{path}: compile ended with {ended.out.strip() or ended.status}")
+    with folder_of(ops=data) as folder:
+        ended = run_program.run(["compile", "ops", "prog"], folder, settings)
+        if ended.status:
+            fault = first_breach(path, data, read_ops)
+            raise Fault("\n".join(fault.lines()) if fault else f"{path}: compile ended with {ended.out.strip() or ended.status}")
+        return profiles(f"{folder}/prog", widths, settings, path, True)
 
 
 def as_csv(found: list[Profile]) -> str:
@@ -161,22 +147,15 @@ def as_csv(found: list[Profile]) -> str:
     return text.getvalue()
 
 
-def parser() -> argparse.ArgumentParser:
-    made = tool_parser("profile", __name__)
-    made.add_argument("file", metavar="OPS|PROG")
-    made.add_argument("widths", metavar="N", nargs="+", help="widths, 1 to 128: 8, or 4,8,16-20")
-    made.add_argument("--ops", metavar="OPS", help="the operation text that PROG was compiled from")
-    made.add_argument("--op", metavar="NAME", help="this entry alone")
-    made.add_argument("--csv", action="store_true", help="with commas, for other programs")
-    return made
-
-
-def main(words: list[str], settings: Settings) -> int:
-    asked = parser().parse_intermixed_args(words)
+@tool(option("file", "OPS|PROG"),
+      option("widths", "N", "widths, 1 to 128: 8, or 4,8,16-20", nargs="+"),
+      option("--ops", "OPS", "the operation text that PROG was compiled from"),
+      option("--op", "NAME", "this entry alone"),
+      flag("--csv", "with commas, for other programs"))
+def main(asked: Asked, settings: Settings) -> None:
     found = of_file(asked.file, widths_of(",".join(asked.widths), "N"), settings, asked.ops)
     names = list(dict.fromkeys(one.name for one in found))
     if asked.op and asked.op not in names:
         raise Fault(f"{asked.file} has no entry {asked.op}: it has {', '.join(names) or 'none'}")
     found = [one for one in found if asked.op in (None, one.name)]
     print(as_csv(found) if asked.csv else "".join(f"{one}\n" for one in found), end="")
-    return 0

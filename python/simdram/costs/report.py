@@ -8,18 +8,17 @@ stand in, the commands of one bank, and those for each element: 64 elements stan
 Banks work at the same time, so the time of a wave is that of the bank with the most commands.
 """
 
-import argparse
 import json
 import re
 import typing
 
+from ..files.image import HEAD_MAX, Table
 from ..files.store import load
-from ..files.table import HEAD_MAX, Table
 from ..launcher.commands import MAGIC
 from ..launcher.faults import Fault
 from ..launcher.overwrite import content
 from ..launcher.settings import Settings
-from ..launcher.tool_parser import tool_parser
+from ..launcher.tool_parser import Asked, flag, option, tool
 from ..rules.script_rules import Instruction, loaded_script
 from .table_formats import as_text
 
@@ -42,11 +41,6 @@ class Script(typing.NamedTuple):
         instructions, data = loaded_script(path)
         ends = [data[one.head.at:].split(b"\n", 1)[0] for one in instructions]
         return cls(instructions, [line.decode("utf-8", "replace").partition("#")[0].strip() for line in ends])
-
-
-def table_in(image: str) -> Table:
-    """The geometry and the objects of an image file."""
-    return Table.read(load(image, "image")[:HEAD_MAX], image)
 
 
 def in_banks(found: dict, script: Script, table: Table) -> None:
@@ -123,14 +117,6 @@ def table_of(made: dict) -> str:
     return as_text(rows) + "all banks: " + " ".join(f"{name}={number}" for name, number in made["totals"].items())
 
 
-def parser() -> argparse.ArgumentParser:
-    made = tool_parser("report", __name__, "[REPORT]")
-    made.add_argument("--json", action="store_true", help="one JSON object")
-    made.add_argument("--script", metavar="SCRIPT", help="the script that was executed; needs --image")
-    made.add_argument("--image", metavar="IMAGE", help="the image that it was executed on")
-    return made
-
-
 def text_of(report: str | None) -> str:
     """The text of a report, or of standard input."""
     if report is None:
@@ -141,12 +127,14 @@ def text_of(report: str | None) -> str:
     return data.decode("utf-8", "replace")
 
 
-def main(words: list[str], _settings: Settings) -> int:
-    asked = parser().parse_args(words)
+@tool("[REPORT]",
+      flag("--json", "one JSON object"),
+      option("--script", "SCRIPT", "the script that was executed; needs --image"),
+      option("--image", "IMAGE", "the image that it was executed on"))
+def main(asked: Asked, _settings: Settings) -> None:
     if asked.script and not asked.image:
         raise Fault("--script needs --image, the image that the script ran on")
-    table = table_in(asked.image) if asked.image else None
+    table = Table.read(load(asked.image, "image")[:HEAD_MAX], asked.image) if asked.image else None
     script = Script.load(asked.script) if asked.script else None
     made = object_of(text_of(asked.report), table, script)
     print(json.dumps(made, indent=1) if asked.json else table_of(made))
-    return 0

@@ -10,7 +10,7 @@ from ..launcher.commands import MAGIC
 from ..launcher.faults import Fault
 from ..launcher.overwrite import write
 from ..launcher.settings import Settings
-from ..launcher.tool_parser import tool_parser
+from ..launcher.tool_parser import Asked, tool
 from .store import load
 
 BYTES = re.compile("(?:[0-9a-fA-F]{2})+")
@@ -28,9 +28,8 @@ def bytes_in(note: str) -> bytes:
     return bytes(found)
 
 
-def main(words: list[str], settings: Settings) -> int:
-    asked = tool_parser("from-hex", __name__, "NOTE", "FILE").parse_args(words)
+@tool("NOTE", "FILE")
+def main(asked: Asked, settings: Settings) -> None:
     data = bytes_in(asked.note)
     kind = next((kind for kind, magic in MAGIC.items() if data.startswith(magic)), "bytes")
     write(asked.file, data, kind, settings)
-    return 0

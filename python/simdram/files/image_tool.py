@@ -103,28 +103,23 @@ def put(path: str, name: str, file: str) -> bytes:
     return image.file()
 
 
-def do(words: typing.Sequence[str], settings: Settings) -> None:
-    """Does what the words say."""
-    verb, rest = (words[0], list(words[1:])) if words else ("", [])
-    if verb == "make" and len(rest) >= 2:
-        image = make(rest[1], rest[2:])
-        write(rest[0], image.file(), "image", settings)
-    elif verb == "show" and len(rest) == 1:
-        print("\n".join(show(Image.load(rest[0]))))
-    elif verb == "get" and len(rest) == 2:
-        sys.stdout.write(get(rest[0], rest[1], "").decode())
-    elif verb == "get" and len(rest) == 3:
-        write(rest[2], get(*rest), "numbers", settings)
-    elif verb == "put" and len(rest) == 3:
-        write(rest[0], put(*rest), "image", settings)
-    else:
-        raise WordsFault("\n".join(["these words are none of", *map(str.strip, about(__name__).split("\n\n")[1].splitlines())]))
-
-
 def main(words: typing.Sequence[str], settings: Settings) -> int:
     """Does what the words say."""
     if {"--help", "-h"} & set(words[:2]):
         print(about(__name__).rstrip())
     else:
-        do(words, settings)
+        verb, rest = (words[0], list(words[1:])) if words else ("", [])
+        if verb == "make" and len(rest) >= 2:
+            image = make(rest[1], rest[2:])
+            write(rest[0], image.file(), "image", settings)
+        elif verb == "show" and len(rest) == 1:
+            print("\n".join(show(Image.load(rest[0]))))
+        elif verb == "get" and len(rest) == 2:
+            sys.stdout.write(get(rest[0], rest[1], "").decode())
+        elif verb == "get" and len(rest) == 3:
+            write(rest[2], get(*rest), "numbers", settings)
+        elif verb == "put" and len(rest) == 3:
+            write(rest[0], put(*rest), "image", settings)
+        else:
+            raise WordsFault("\n".join(["these words are none of", *map(str.strip, about(__name__).split("\n\n")[1].splitlines())]))
     return 0

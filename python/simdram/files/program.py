@@ -125,7 +125,8 @@ class Program:
             raise FileFault(path, fault.place, fault.word, fault.what + text_hint(data)) from None
         version = fields.within(2, 1, 2, "version", "the version")
         heads = read_directory(fields, version)
-        entries = [dataclasses.replace(head, code=read_code(fields, head, count)) for head, count in heads]
+        entries = [dataclasses.replace(head, code=tuple(read_instruction(fields, head, count, at) for at in range(count)))
+                   for head, count in heads]
         fields.end()
         return cls(entries, version)
 
@@ -183,10 +184,6 @@ def read_kinds(fields: Fields, version: int, name: str, count: int) -> tuple[tup
         raise fields.fault("directory", f"the kinds of {name} are {byte}, with a bit that is never set there")
     kinds = ["word" if byte >> bit & 1 else "bit" for bit in range(7)]
     return tuple(kinds[:count]), tuple([kinds[4], kinds[6]][:1 + second])
-
-
-def read_code(fields: Fields, head: Entry, count: int) -> tuple[Instruction, ...]:
-    return tuple(read_instruction(fields, head, count, at) for at in range(count))
 
 
 def read_instruction(fields: Fields, head: Entry, count: int, at: int) -> Instruction:

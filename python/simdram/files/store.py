@@ -9,6 +9,7 @@ import errno
 import os
 import shutil
 import stat
+import tempfile
 import typing
 
 from .fault import FileFault, NotWritten, TooLong
@@ -120,6 +121,15 @@ def store(path: str, data: bytes, is_synced: bool = False) -> None:
         raise NotWritten(path, "", "cannot write", fault.strerror or str(fault)) from None
 
 
+@contextlib.contextmanager
+def folder_of(**files: bytes) -> typing.Iterator[str]:
+    """A folder with these files by their names, which is removed afterwards."""
+    with tempfile.TemporaryDirectory(prefix="simdram_") as folder:
+        for name, data in files.items():
+            store(os.path.join(folder, name), data)
+        yield folder
+
+
 def free_name(path: str) -> str:
     """The first of NAME~, NAME~2, NAME~3 .. that nothing stands under, not even a link: an empty file stands there now."""
     number = 1
@@ -140,17 +150,12 @@ def keep(path: str, name: str = "") -> str:
         kept = free_name(name or path)
         os.replace(new, kept)
     with contextlib.suppress(OSError):
-        sync_folder(os.path.dirname(kept) or ".")
+        folder = os.open(os.path.dirname(kept) or ".", os.O_RDONLY)
+        try:
+            os.fsync(folder)
+        finally:
+            os.close(folder)
     return kept
-
-
-def sync_folder(path: str) -> None:
-    """Waits until the disk has a folder's names."""
-    folder = os.open(path, os.O_RDONLY)
-    try:
-        os.fsync(folder)
-    finally:
-        os.close(folder)
 
 
 def holds_same(first: str, second: str) -> bool:

@@ -5,8 +5,8 @@ import typing
 
 from . import decode
 from .fields import Fields
+from .image import Table
 from .store import load
-from .table import Table
 
 MAGIC = b"SDMT"
 KINDS = ("AAP", "AP", "WRITE")

@@ -51,7 +51,6 @@ class Reader:
         return list(map(int, words))
 
     def head(self) -> Head:
-        """The header."""
         words = self.words()[1:]
         if len(words) < 5 or not all(word.isascii() and word.isdigit() for word in words):
             raise self.fault("a header is aig or aag and the numbers of variables, inputs, latches, outputs and gates")
@@ -102,7 +101,6 @@ class Reader:
         return found
 
     def read(self) -> Netlist:
-        """The netlist."""
         is_text = self.data.startswith(b"aag ")
         head = self.head()
         own = [self.numbers((1,), "an input")[0] >> 1 for _ in range(head.inputs)] if is_text else list(range(1, head.inputs + 1))

@@ -2,7 +2,7 @@
 several."""
 
 from ..launcher.faults import Fault
-from .cell_library import Cell, own_cells
+from .cell_library import OWN, Cell, cell_of
 from .netlist import Netlist, Table
 
 MOST_INPUTS, OF_ONE = 10, 3
@@ -40,7 +40,7 @@ class Reader:
 
     def __init__(self, path: str, text: str, cells: dict[str, Cell] | None = None) -> None:
         self.path, self.netlist = path, Netlist()
-        self.cells = {**own_cells(), **(cells or {})}
+        self.cells = {**{name: cell_of(text) for name, text in OWN.items()}, **(cells or {})}
         self.lines = lines_of(text)
         self.at = 0
 

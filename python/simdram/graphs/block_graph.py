@@ -124,12 +124,6 @@ def alone(name: str, block: Statement, shape: OpShape, data: bytes) -> str:
     return f"op {name}({head}) -> {tail} {{ {text} }}\n"
 
 
-def compiled(name: str, data: bytes, settings: Settings) -> tuple[list[Part], RowNames]:
-    """The parts of the program that an op of a text is compiled to, and the names of its rows."""
-    text = OpText(op_shape("the operation text", data, name), data)
-    return text.parts(parts(op_texts.compiled(data, settings).find(name).code)), text.names()
-
-
 def as_compiled(block: Statement, shape: OpShape, data: bytes, settings: Settings) -> Compiled:
     """The graph of the loop that a block is compiled to in its op; where that loop has other statements too, of the loop that
     it is compiled to alone."""
@@ -141,7 +135,8 @@ def as_compiled(block: Statement, shape: OpShape, data: bytes, settings: Setting
 
 def of_statement(block: Statement, shape: OpShape, number: int, data: bytes, settings: Settings) -> Compiled:
     """The graph of the loop of a statement of the op as this text has it."""
-    found, rows = compiled(shape.name, data, settings)
+    text = OpText(op_shape("the operation text", data, shape.name), data)
+    found, rows = text.parts(parts(op_texts.compiled(data, settings).find(shape.name).code)), text.names()
     held = over(found, rows)
     loops = [k for k, part in enumerate(found) if part.loops and number in part.statements]
     if not loops:

@@ -10,6 +10,7 @@ GATE = re.compile(r"GATE\s+(\"[^\"]*\"|\S+)\s+\S+\s+([^;]*);")
 TOKEN = re.compile(r"[A-Za-z_][\w.\[\]<>$]*|[!*+&|^()']|[01]|(?P<stranger>\S)")
 LEVELS = (("+|", operator.or_), ("^", operator.xor), ("*&", operator.and_))
 COMMENT = re.compile(r"#[^\n]*")
+# the gates that yosys writes without a library
 OWN = {"$_BUF_": "Y=A", "$_NOT_": "Y=!A", "$_AND_": "Y=A*B", "$_NAND_": "Y=!(A*B)", "$_OR_": "Y=A+B", "$_NOR_": "Y=!(A+B)",
        "$_XOR_": "Y=A^B", "$_XNOR_": "Y=!(A^B)", "$_ANDNOT_": "Y=A*!B", "$_ORNOT_": "Y=A+!B", "$_MUX_": "Y=!S*A+S*B",
        "$_NMUX_": "Y=!(!S*A+S*B)", "$_AOI3_": "Y=!(A*B+C)", "$_OAI3_": "Y=!((A+B)*C)", "$_AOI4_": "Y=!(A*B+C*D)",
@@ -107,8 +108,3 @@ def cells_in(path: str, text: str) -> dict[str, Cell]:
     if not found:
         raise Fault(f"{path} has no line `GATE NAME AREA OUTPUT=FORMULA; ..`")
     return found
-
-
-def own_cells() -> dict[str, Cell]:
-    """The gates that yosys writes without a library."""
-    return {name: cell_of(text) for name, text in OWN.items()}

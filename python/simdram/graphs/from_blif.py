@@ -9,7 +9,6 @@ language are changed, which a comment says. A netlist of more than four inputs o
 the instructions that call them in order. What breaks a limit of the language is refused with its rule.
 """
 
-import argparse
 import collections
 import re
 import sys
@@ -17,8 +16,9 @@ import sys
 from ..files.store import load
 from ..launcher.faults import Fault
 from ..launcher.settings import Settings
-from ..launcher.tool_parser import tool_parser
-from ..rules.ops_rules import RESERVED, RESULTS, SOURCES, explain_ops
+from ..launcher.tool_parser import Asked, flag, option, tool
+from ..rules.answer import first_breach
+from ..rules.ops_rules import RESERVED, RESULTS, SOURCES, read_ops
 from ..rules.tokens import NAME_MAX
 from ..rules.word_ops import GATES
 from . import aiger_file
@@ -111,16 +111,6 @@ class Block:
         return self.names.name(signal)
 
 
-def parser() -> argparse.ArgumentParser:
-    made = tool_parser("from-blif", __name__, "FILE")
-    made.add_argument("--name", metavar="NAME", help="the op's name; else the model's")
-    made.add_argument("--down", action="store_true", help="the block goes from the top bit down")
-    made.add_argument("--bit", action="append", default=[], metavar="NAME", help="an input that is one bit for all positions")
-    made.add_argument("--genlib", metavar="LIBRARY", help="the library of the gates in .gate lines")
-    made.add_argument("--state", action="append", default=[], metavar="NAME=BIT", help="how a state begins")
-    return made
-
-
 def read(path: str, genlib: str | None) -> Netlist:
     """The netlist of a file."""
     data = load(path)
@@ -143,8 +133,13 @@ def calls(net: Netlist, nets: list[Netlist], path: str) -> str:
     return "".join(f"# {line}\n" for line in [said, *lines])
 
 
-def main(words: list[str], _settings: Settings) -> int:
-    asked = parser().parse_args(words)
+@tool("FILE",
+      option("--name", "NAME", "the op's name; else the model's"),
+      flag("--down", "the block goes from the top bit down"),
+      option("--bit", "NAME", "an input that is one bit for all positions", action="append", default=[]),
+      option("--genlib", "LIBRARY", "the library of the gates in .gate lines"),
+      option("--state", "NAME=BIT", "how a state begins", action="append", default=[]))
+def main(asked: Asked, _settings: Settings) -> None:
     starts = {}
     for one in asked.state:
         name, equals, bit = one.partition("=")
@@ -160,8 +155,7 @@ def main(words: list[str], _settings: Settings) -> int:
     blocks = [Block(one, asked.file, [bit for bit in asked.bit if bit in one.sources],
                     {state: bit for state, bit in starts.items() if state in one.states}, len(nets) == 1) for one in nets]
     text = calls(net, nets, asked.file) + "".join(one.text(one.net.name, "down" if asked.down else "up") for one in blocks)
-    answer = explain_ops(asked.file, text.encode())
+    answer = first_breach(asked.file, text.encode(), read_ops)
     if answer is not None:
         raise Fault(f"{asked.file}: the op would break a rule, {answer.kind}: {answer.rule}")
     print(text, end="")
-    return 0

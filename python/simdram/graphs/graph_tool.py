@@ -9,31 +9,19 @@ BLIF has a table for each majority, DOT a dashed edge for each complement, AIGER
 in .aag. Without OUT the graph is printed.
 """
 
-import argparse
 import sys
 
 from ..files.store import load
 from ..launcher.faults import Fault
 from ..launcher.overwrite import write
 from ..launcher.settings import Settings
-from ..launcher.tool_parser import tool_parser
+from ..launcher.tool_parser import Asked, flag, option, tool
 from ..rules.op_shapes import OpShape, Statement
 from ..rules.ops_rules import op_shape, shapes_of
 from .block_graph import Compiled, as_compiled, written
-from .mig import live
-from .mig_formats import as_aiger, as_blif, as_dot
+from .mig import as_aiger, as_blif, as_dot, live
 
 FORMATS = ("dot", "blif", "aiger")
-
-
-def parser() -> argparse.ArgumentParser:
-    made = tool_parser("graph", __name__, "OPS", "[OUT]")
-    made.add_argument("--op", metavar="NAME", help="the op; else the first that has a serial block")
-    made.add_argument("--block", type=int, default=1, metavar="K", help="which of its blocks, from 1")
-    made.add_argument("--format", choices=FORMATS, default="dot")
-    made.add_argument("--compiled", action="store_true", help="the graph of the loop that the block is compiled to")
-    made.add_argument("--positions", type=int, default=1, metavar="K", help="over how many positions, as it is written")
-    return made
 
 
 def block_of(path: str, data: bytes, name: str | None, number: int) -> tuple[OpShape, Statement]:
@@ -48,8 +36,13 @@ def block_of(path: str, data: bytes, name: str | None, number: int) -> tuple[OpS
     return shape, blocks[number - 1]
 
 
-def main(words: list[str], settings: Settings) -> int:
-    asked = parser().parse_args(words)
+@tool("OPS", "[OUT]",
+      option("--op", "NAME", "the op; else the first that has a serial block"),
+      option("--block", "K", "which of its blocks, from 1", type=int, default=1),
+      option("--format", choices=FORMATS, default="dot"),
+      flag("--compiled", "the graph of the loop that the block is compiled to"),
+      option("--positions", "K", "over how many positions, as it is written", type=int, default=1))
+def main(asked: Asked, settings: Settings) -> None:
     data = load(asked.ops, "ops")
     shape, block = block_of(asked.ops, data, asked.op, asked.block)
     if not 1 <= asked.positions <= 16 or asked.compiled and asked.positions != 1:
@@ -66,4 +59,3 @@ def main(words: list[str], settings: Settings) -> int:
         write(asked.out, made, asked.format, settings)
     else:
         sys.stdout.buffer.write(made)
-    return 0

@@ -9,7 +9,6 @@ import sys
 import tempfile
 import threading
 import time
-import typing
 
 from . import fast_toolchain
 from .faults import NoProgram
@@ -82,21 +81,15 @@ def try_program(work: pathlib.Path, rt: str) -> subprocess.CompletedProcess:
                           env={**os.environ, "TMPDIR": str(work / "try")}, stdin=subprocess.DEVNULL, capture_output=True, check=False)
 
 
-def compiled_fast(work: pathlib.Path) -> bool:
-    """Compiles the program with optimization, where the toolchain can be called so, and returns whether it did."""
-    toolchain = fast_toolchain.made_in(work / "toolchain")
-    if toolchain is None:
-        return False
-    try_program(work, str(toolchain.rt))
-    return (work / "copy").exists() and toolchain.was_used()
-
-
 def compiled(work: pathlib.Path) -> pathlib.Path:
     """The program, compiled in a folder: with optimization, else as `rt try` compiles it."""
     fast, slow = work / "fast", work / "slow"
     fast.mkdir()
-    if compiled_fast(fast):
-        return fast / "copy"
+    toolchain = fast_toolchain.made_in(fast / "toolchain")
+    if toolchain:
+        try_program(fast, str(toolchain.rt))
+        if (fast / "copy").exists() and toolchain.mark.exists():
+            return fast / "copy"
     say("this toolchain does not compile with optimization: the program will be slow (some 50 times slower than the proved one)")
     slow.mkdir()
     ended = try_program(slow, "rt")
@@ -111,18 +104,13 @@ def compile_unproved() -> None:
     need_rt()
     out_folder().mkdir(parents=True, exist_ok=True)
     with open(out_folder() / "lock", "wb") as lock:
-        wait_for(lock)
+        try:
+            fcntl.flock(lock, fcntl.LOCK_EX | fcntl.LOCK_NB)
+        except BlockingIOError:
+            say("another call compiles the program; waiting for it")
+            fcntl.flock(lock, fcntl.LOCK_EX)
         if is_old(out_folder() / UNPROVED, SOURCES[UNPROVED]):
             compile_into_place()
-
-
-def wait_for(lock: typing.BinaryIO) -> None:
-    """Waits until no other call compiles here."""
-    try:
-        fcntl.flock(lock, fcntl.LOCK_EX | fcntl.LOCK_NB)
-    except BlockingIOError:
-        say("another call compiles the program; waiting for it")
-        fcntl.flock(lock, fcntl.LOCK_EX)
 
 
 def compile_into_place() -> None:

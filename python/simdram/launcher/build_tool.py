@@ -2,10 +2,9 @@
 
 from . import run_program
 from .settings import Settings
-from .tool_parser import tool_parser
+from .tool_parser import Asked, tool
 
 
-def main(words: list[str], settings: Settings) -> int:
-    tool_parser("build", __name__).parse_args(words)
+@tool()
+def main(_asked: Asked, settings: Settings) -> None:
     print(run_program.program(settings))
-    return 0

@@ -8,6 +8,7 @@ the sanitizer. The program does the same, some 50 times as fast.
 import pathlib
 import shlex
 import shutil
+import typing
 
 SANITIZER = "-fsanitize=address"
 COMMAND = ("rt", "rtlib.py")
@@ -35,21 +36,17 @@ def link_all(source: pathlib.Path, folder: pathlib.Path, but: tuple[str, ...]) -
             (folder / path.name).symlink_to(path)
 
 
-class FastToolchain:
-    """The folder of links: its command `rt`, and whether its clang has optimized the program."""
+class FastToolchain(typing.NamedTuple):
+    """The folder of links: its command `rt`, and the file that its clang makes when it has optimized the program."""
 
-    def __init__(self, folder: pathlib.Path) -> None:
-        self.rt = folder / "bin" / "rt"
-        self.mark = folder / "optimized"
-
-    def was_used(self) -> bool:
-        return self.mark.exists()
+    rt: pathlib.Path
+    mark: pathlib.Path
 
 
 def made_in(folder: pathlib.Path) -> FastToolchain | None:
     """Makes the toolchain of links in a folder that is not there yet, if the installed one has the files that it needs."""
     real = pathlib.Path(shutil.which("rt") or "").resolve()
-    kit, made = real.parent.parent, FastToolchain(folder)
+    kit, made = real.parent.parent, FastToolchain(folder / "bin" / "rt", folder / "optimized")
     clang = kit / "toolchain" / "bin" / "clang"
     if not clang.is_file() or not all((real.parent / name).is_file() for name in COMMAND):
         return None

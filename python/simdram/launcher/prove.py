@@ -13,7 +13,7 @@ from .faults import NoProgram
 from .minutes import SECONDS, seconds_of
 from .say import say, show
 from .settings import Settings
-from .tool_parser import tool_parser
+from .tool_parser import Asked, tool
 
 INTERRUPTED = 130
 # a crate that took less was proved before
@@ -91,8 +91,8 @@ class Progress:
         self.at += 1
 
 
-def rt_in(crate: str, verb: str, progress: Progress) -> list[str]:
-    """Runs a command of rt on a crate and returns what it printed; a fault if it fails."""
+def rt_in(crate: str, verb: str, progress: Progress) -> None:
+    """Runs a command of rt on a crate; a fault if it fails, after what it printed."""
     lines: list[str] = []
     with subprocess.Popen(["rt", verb], cwd=home() / "crates" / crate, stdin=subprocess.DEVNULL, stdout=subprocess.PIPE,
                           stderr=subprocess.STDOUT, text=True, errors="replace") as running:
@@ -105,12 +105,9 @@ def rt_in(crate: str, verb: str, progress: Progress) -> list[str]:
             running.wait()
             raise
     progress.end()
-    return lines if running.returncode == 0 else give_up(crate, lines)
-
-
-def give_up(crate: str, lines: list[str]):
-    sys.stderr.write("".join(lines))
-    raise NoProgram(f"{crate} is not proved")
+    if running.returncode:
+        sys.stderr.write("".join(lines))
+        raise NoProgram(f"{crate} is not proved")
 
 
 def prove() -> None:
@@ -138,9 +135,8 @@ def prove() -> None:
     os.utime(out / PROVED, ns=(began, began))
 
 
-def main(words: list[str], _settings: Settings) -> int:
-    tool_parser("prove", __name__).parse_args(words)
+@tool()
+def main(_asked: Asked, _settings: Settings) -> None:
     if is_old(out_folder() / PROVED, SOURCES[PROVED]):
         prove()
     print(out_folder() / PROVED)
-    return 0

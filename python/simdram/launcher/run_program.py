@@ -12,7 +12,7 @@ import sys
 import typing
 
 from . import build
-from .faults import NoProgram
+from .faults import Fault, NoProgram
 from .places import TOP
 from .say import is_new_here, say
 from .settings import Settings, taken
@@ -48,27 +48,17 @@ def standing(settings: Settings) -> str | None:
     return None
 
 
-def need_no_proof(settings: Settings) -> None:
-    """Raises if only the proved program will do."""
-    if settings.proved:
-        state = "is older than its sources" if (build.out_folder() / build.PROVED).exists() else "is not built"
-        raise NoProgram(f"the proved program {state}: simdram prove")
-
-
-def warn(path: str, settings: Settings) -> None:
-    """Says once per terminal that the program was not proved."""
-    if pathlib.Path(path).name == build.UNPROVED and not given() and not settings.quiet and is_new_here("unproved"):
-        say("this program was compiled without proofs; `simdram prove` builds the proved one")
-
-
 def program(settings: Settings) -> str:
     """The program, built first if necessary: without proofs, since a proof takes long and is asked for by `simdram prove`."""
     found = standing(settings)
     if found is None:
-        need_no_proof(settings)
+        if settings.proved:
+            state = "is older than its sources" if (build.out_folder() / build.PROVED).exists() else "is not built"
+            raise NoProgram(f"the proved program {state}: simdram prove")
         build.compile_unproved()
         found = str(build.out_folder() / build.UNPROVED)
-    warn(found, settings)
+    if pathlib.Path(found).name == build.UNPROVED and not given() and not settings.quiet and is_new_here("unproved"):
+        say("this program was compiled without proofs; `simdram prove` builds the proved one")
     return found
 
 
@@ -105,6 +95,11 @@ class Ended(typing.NamedTuple):
     status: int
     out: str
     err: str
+
+    def check(self, what: str) -> None:
+        """Raises what it said where it did not end with status 0."""
+        if self.status:
+            raise Fault(f"{what} ended with status {self.status}: {self.out.strip() or self.err.strip()}")
 
 
 # the calls of the program that have not ended, of all threads

@@ -6,6 +6,12 @@ import pathlib
 import sys
 import typing
 
+from .commands import TOOLS
+from .settings import Settings
+
+Asked = argparse.Namespace
+Main = typing.Callable[[Asked, Settings], int | None]
+
 
 def about(module: str) -> str:
     """A module's docstring, from its source where the interpreter dropped it."""
@@ -20,9 +26,41 @@ class Parser(argparse.ArgumentParser):
         (file or sys.stderr).write(message)
 
 
-def tool_parser(name: str, module: str, *words: str) -> argparse.ArgumentParser:
-    """A parser for the words of this tool: those without options, of which `[WORD]` may be left out."""
+class Option(typing.NamedTuple):
+    """A word of a tool, or an option where it begins with `-`, and what argparse takes for it."""
+
+    name: str
+    more: dict[str, typing.Any]
+
+
+def option(name: str, metavar: str | tuple[str, ...] = "", help: str = "", **more: typing.Any) -> Option:
+    said = {key: text for key, text in (("metavar", metavar), ("help", help)) if text}
+    return Option(name, {**said, **more})
+
+
+def flag(name: str, help: str) -> Option:
+    """An option that takes no word."""
+    return option(name, "", help, action="store_true")
+
+
+def parser_of(module: str, words: typing.Iterable[str | Option]) -> Parser:
+    """The parser of a tool by its module: words without options are names, of which `[WORD]` may be left out."""
+    name = next(command.name for command in TOOLS if module.endswith(f".{command.module}"))
     made = Parser(prog=f"simdram {name}", description=about(module), formatter_class=argparse.RawDescriptionHelpFormatter)
-    for word in words:
-        made.add_argument(word.strip("[]").lower(), metavar=word.strip("[]"), nargs="?" if word.startswith("[") else None)
+    for one in words:
+        if isinstance(one, str):
+            one = option(one.strip("[]").lower(), one.strip("[]"), nargs="?" if one.startswith("[") else None)
+        made.add_argument(one.name, **one.more)
     return made
+
+
+def tool(*words: str | Option) -> typing.Callable[[Main], typing.Callable[[list[str], Settings], int]]:
+    """Makes a tool's `main` from what is done with its parsed words, which may give a status."""
+    def of(main: Main) -> typing.Callable[[list[str], Settings], int]:
+        def called(given: list[str], settings: Settings) -> int:
+            parser = parser_of(main.__module__, words)
+            # options may stand among several words of one name
+            has_several = any(isinstance(one, Option) and "nargs" in one.more for one in words)
+            return main((parser.parse_intermixed_args if has_several else parser.parse_args)(given), settings) or 0
+        return called
+    return of

@@ -102,11 +102,7 @@ def wrong_together(command: Command, words: list[str]) -> str | None:
     """What is wrong with arguments of which each by itself is right."""
     if command.name == "init" and int(words[0]) * int(words[1]) * int(words[2]) > WORDS_MAX:
         return f"{words[0]} banks of {words[1]} rows of {words[2]} words are more than the {WORDS_MAX} words that a chip may have"
-    return equal_files(command, words)
-
-
-def equal_files(command: Command, words: list[str]) -> str | None:
-    """Which two files of a command are the same; only IMAGE and OUT may be."""
+    # of files only IMAGE and OUT may be the same
     files = [(word, text) for word, text in zip(command.words, words) if word.is_file]
     for k, (word, text) in enumerate(files):
         for other, same in files[k + 1:]:

@@ -5,12 +5,10 @@ of the word before it; so words are left out only of an entry that names no row 
 """
 
 import dataclasses
-import os
-import tempfile
 
 from ..assembler.walks import Stuck, walk
 from ..files.program import BIT, WORD, Entry, Instruction, Program
-from ..files.store import store
+from ..files.store import folder_of
 from ..launcher import run_program
 from ..rules.verdicts import verdicts_of
 
@@ -54,10 +52,8 @@ def with_named_rows(path: str, ops: str, file: bytes, n: int) -> tuple[bytes, st
     """A program file with such heads, where `verify` finds their entries right at the width, and what is said of them."""
     old = Program.read(file).entries
     new = list(map(with_fewer_rows, old))
-    with tempfile.TemporaryDirectory(prefix="simdram_") as folder:
-        prog = os.path.join(folder, "prog")
-        store(prog, Program(new).file())
-        ended = run_program.run(["verify", ops, prog, n], path=path)
+    with folder_of(prog=Program(new).file()) as folder:
+        ended = run_program.run(["verify", ops, f"{folder}/prog", n], path=path)
     right = {verdict.name for verdict in verdicts_of(ended.out) if verdict.is_right}
     taken = [made if made.name in right else entry for entry, made in zip(old, new)]
     lines = []

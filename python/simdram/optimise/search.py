@@ -6,13 +6,12 @@ words of a call say what comes of it: no clock is read.
 
 import os
 import re
-import tempfile
 import typing
 
 from ..assembler.at_width import choice
 from ..files.fault import FileFault, NotWritten
 from ..files.program import Entry, Program
-from ..files.store import LIMITS, load, store
+from ..files.store import LIMITS, folder_of, store
 from ..launcher import run_program
 from ..launcher.overwrite import why_not_written, write
 from ..launcher.parallel import in_parallel
@@ -57,13 +56,12 @@ class Refused(Exception):
 
 def of_entry(path: str, asked: Asked, entry: Entry) -> Found:
     """What the program finds for one entry."""
-    with tempfile.TemporaryDirectory(prefix="simdram_") as folder:
-        prog, new = os.path.join(folder, "prog"), os.path.join(folder, "new")
-        store(prog, Program([entry]).file())
-        ended = run_program.run(["optimise", asked.ops, prog, asked.width, new, asked.seed, asked.work], path=path)
+    with folder_of(prog=Program([entry]).file()) as folder:
+        words = ["optimise", asked.ops, f"{folder}/prog", asked.width, f"{folder}/new", asked.seed, asked.work]
+        ended = run_program.run(words, path=path)
         if ended.status:
             raise Refused(ended)
-        return Found(Program.load(new).entries[0], ended.out.splitlines()[0])
+        return Found(Program.load(f"{folder}/new").entries[0], ended.out.splitlines()[0])
 
 
 class Search:

@@ -1,12 +1,10 @@
 """The fewest commands at one width from two texts of the same ops: as they were written, and as `simplify` leaves them."""
 
-import os
-import tempfile
 import typing
 
 from ..assembler.walks import walk
 from ..files.program import Entry, Program
-from ..files.store import store
+from ..files.store import folder_of
 from ..launcher import run_program
 from ..launcher.faults import Fault
 from ..rules.verdicts import verdicts_of
@@ -51,27 +49,24 @@ def searched(path: str, ops: str, prog: str, n: int, work: int) -> tuple[list[En
     return search.before, [one.entry for one in search.found]
 
 
-def right_names(path: str, ops: str, entries: typing.Sequence[Entry], folder: str, n: int) -> set[str]:
+def right_names(path: str, ops: str, entries: typing.Sequence[Entry], n: int) -> set[str]:
     """The names of the entries that `verify` finds right at a width."""
-    prog = os.path.join(folder, "verified")
-    store(prog, Program(list(entries)).file())
-    ended = run_program.run(["verify", ops, prog, n], path=path)
+    with folder_of(prog=Program(list(entries)).file()) as folder:
+        ended = run_program.run(["verify", ops, f"{folder}/prog", n], path=path)
     return {verdict.name for verdict in verdicts_of(ended.out) if verdict.is_right}
 
 
 def fewest(path: str, written: bytes, simpler: bytes, n: int, work: int = WORK) -> list[Fewest]:
     """For each op of the text as it was written the entry of the fewest commands at a width. One of the simpler text is taken only
     where `verify` finds that it does the op as it was written."""
-    with tempfile.TemporaryDirectory(prefix="simdram_") as folder:
-        ops, other, prog = (os.path.join(folder, name) for name in ("ops", "simpler", "prog"))
-        store(ops, written)
+    with folder_of(ops=written, simpler=simpler) as folder:
+        ops, other, prog = (f"{folder}/{name}" for name in ("ops", "simpler", "prog"))
         before, own = searched(path, ops, prog, n, work)
         found = own
         if simpler != written:
-            store(other, simpler)
             theirs = {entry.name: entry for entry in searched(path, other, prog, n, work)[1]}
-            right = right_names(path, ops, list(theirs.values()), folder, n)
+            right = right_names(path, ops, list(theirs.values()), n)
             found = [min([entry, *(theirs[name] for name in [entry.name] if name in right)], key=lambda one: commands(one, n))
                      for entry in own]
-        right = right_names(path, ops, found, folder, n)
+        right = right_names(path, ops, found, n)
         return [Fewest(entry, commands(old, n), commands(entry, n), entry.name in right) for old, entry in zip(before, found)]

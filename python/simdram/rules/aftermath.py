@@ -7,9 +7,9 @@ import sys
 
 from ..assembler.one_width import one_width, other_width
 from ..files.fault import FileFault
+from ..files.image import HEAD_MAX, Table
 from ..files.program import Program
 from ..files.store import load
-from ..files.table import HEAD_MAX, Table
 from ..launcher.commands import Command
 from ..launcher.overwrite import why_not_written
 from ..launcher.settings import Settings
@@ -59,14 +59,6 @@ class Aftermath:
             raise LookupError("IMAGE")
         return Table.read(self.head, self.paths["IMAGE"])
 
-    def refusals(self) -> list[Answer]:
-        """The instructions that were refused."""
-        prog, data = self.file("PROG")
-        entries = {entry.name: entry for entry in Program.read(data, prog).entries}
-        is_compiled = "OPS" in self.paths
-        stuck = (lambda *_: None) if is_compiled else answers.stuck_by_cost(prog, self.settings)
-        return answers.script_refusals(*self.file("SCRIPT"), self.table(), entries, stuck, self.command.name == "guard", prog)
-
     def fault(self, kind: str, name: str) -> list[Answer]:
         """The first fault of a file."""
         found = answers.first_fault(kind, *self.file(name))
@@ -80,7 +72,11 @@ class Aftermath:
         if status == PROGRAM:
             return self.fault("program", next(name for name in PROGRAMS if name in self.paths))
         if status == REFUSED:
-            return self.refusals()
+            prog, data = self.file("PROG")
+            entries = {entry.name: entry for entry in Program.read(data, prog).entries}
+            is_compiled = "OPS" in self.paths
+            stuck = (lambda *_: None) if is_compiled else answers.stuck_by_cost(prog, self.settings)
+            return answers.script_refusals(*self.file("SCRIPT"), self.table(), entries, stuck, self.command.name == "guard", prog)
         if status == SCAN:
             return answers.query_refusals(*self.file("QUERY"), self.table())
         if status == GUARD:

@@ -2,7 +2,9 @@
 
 import dataclasses
 import textwrap
+import typing
 
+from ..launcher.faults import Fault
 from ..launcher.words import nearest
 from .tokens import STRANGER, Token, line_of
 
@@ -31,16 +33,6 @@ class Answer:
         return found
 
 
-@dataclasses.dataclass(frozen=True)
-class Refusal:
-    """Why an instruction or a scan is refused: the report's words, the token, the rule, and what would be right."""
-
-    word: str
-    token: Token
-    rule: str
-    right: tuple[str, ...] = ()
-
-
 class Breach(Exception):
     """A token of a text that breaks a rule: the kind in a word, the rule in a sentence, and what would be right."""
 
@@ -48,9 +40,30 @@ class Breach(Exception):
         super().__init__(rule)
         self.token, self.kind, self.rule, self.right = token, kind, rule, right
 
-    def answer(self, path: str, data: bytes) -> Answer:
-        """The fault with its line and column in a file."""
-        return at_token(path, data, self.token, self.kind, self.rule, self.right)
+    def answer(self, path: str, data: bytes, refused: str = "") -> Answer:
+        """The fault with its line and column in a file; of an instruction or a query, what of it is refused."""
+        line = line_of(data, self.token.at)
+        texts = data.split(b"\n")
+        text = texts[line - 1] if texts else b""
+        before = sum(len(text) + 1 for text in texts[:line - 1])
+        column = len(text[:self.token.at - before].decode("utf-8", "replace"))
+        shown = "".join(one if one.isprintable() else " " if one in "\t\r" else "?" for one in text.decode("utf-8", "replace"))
+        return Answer(path, f"line {line} column {column + 1}", f"{refused} refused {self.kind}" if refused else self.kind, self.rule, self.right,
+                      shown if shown.strip() else "", (column, 1 if self.token.kind == STRANGER else len(self.token.text)))
+
+    def fault(self, path: str, data: bytes) -> Fault:
+        """The fault as one line."""
+        answer = self.answer(path, data)
+        return Fault(f"{path} {answer.place}: {answer.kind}: {answer.rule}")
+
+
+def first_breach(path: str, data: bytes, read: typing.Callable[..., typing.Any], *more: typing.Any) -> Answer | None:
+    """The first fault that a reader of a text finds, if there is one."""
+    try:
+        read(data, *more)
+    except Breach as breach:
+        return breach.answer(path, data)
+    return None
 
 
 def near(word: str, known) -> str:
@@ -65,16 +78,3 @@ def caret_lines(text: str, column: int, length: int) -> list[str]:
     part = text[start:start + WIDEST]
     carets = "^" * max(1, min(length, len(part) - (column - start)))
     return [f"    {'..' if start else ''}{part}".rstrip(), " " * (4 + 2 * bool(start) + column - start) + carets]
-
-
-def at_token(path: str, data: bytes, token: Token, kind: str, rule: str, right=()) -> Answer:
-    """The answer at a token of a text."""
-    line = line_of(data, token.at)
-    texts = data.split(b"\n")
-    before = sum(len(text) + 1 for text in texts[:line - 1])
-    text = texts[line - 1] if texts else b""
-    column = min(token.at - before, len(text))
-    shown = "".join(one if one.isprintable() else " " if one in "\t\r" else "?" for one in text.decode("utf-8", "replace"))
-    column = len(text[:column].decode("utf-8", "replace"))
-    place = f"line {line} column {column + 1}"
-    return Answer(path, place, kind, rule, tuple(right), shown if shown.strip() else "", (column, 1 if token.kind == STRANGER else len(token.text)))

@@ -4,23 +4,22 @@ import subprocess
 
 from ..assembler import assemble
 from ..files.fault import FileFault
-from ..files.image import Image
+from ..files.image import Image, Table
 from ..files.program import Entry, Program
-from ..files.table import Table
 from ..files.trace import Trace
 from ..launcher import run_program
 from ..launcher.commands import KINDS, MAGIC
 from ..launcher.overwrite import content
 from ..launcher.settings import Settings
-from .answer import Answer, Breach, Refusal, at_token
-from .flips_rules import explain_flips
-from .ops_rules import explain_ops
+from .answer import Answer, Breach, first_breach
+from .flips_rules import check_flips
+from .ops_rules import read_ops
 from .query_rules import read_query
-from .scan_refusals import scan_refusal
-from .script_refusals import Checker, refused
+from .script_refusals import Checker, check_scan, refused
 from .script_rules import read_script
 
 READERS = {"program": Program, "image": Image, "trace": Trace}
+TEXTS = {"ops": read_ops, "script": read_script, "query": read_query, "micro": assemble}
 # what would be right, by the word of the rule
 RIGHT = {
     "rest": "the file ends where its earlier fields say, and nothing may follow",
@@ -47,37 +46,18 @@ def right_bytes(word: str, data: bytes) -> tuple[str, ...]:
     return (RIGHT[word],) if word in RIGHT else ()
 
 
-def explain_bytes(kind: str, path: str, data: bytes) -> Answer | None:
-    """The first fault of a program file, an image or a trace."""
-    try:
-        READERS[kind].read(data, path)
-    except FileFault as fault:
-        return Answer(path, fault.place, fault.word, fault.what, right_bytes(fault.word, data))
-    return None
-
-
-def explain_micro(path: str, data: bytes) -> Answer | None:
-    """The first fault of a text of microprograms."""
-    try:
-        assemble(data)
-    except Breach as fault:
-        return fault.answer(path, data)
-    return None
-
-
 def first_fault(kind: str, path: str, data: bytes) -> Answer | None:
     """The first fault of a file of a kind, by itself."""
-    texts = {"ops": explain_ops, "script": lambda *file: read_script(*file)[1], "query": lambda *file: read_query(*file)[1], "micro": explain_micro}
-    if kind not in texts:
-        return explain_bytes(kind, path, data)
-    found = texts[kind](path, data)
+    if kind not in TEXTS:
+        try:
+            READERS[kind].read(data, path)
+        except FileFault as fault:
+            return Answer(path, fault.place, fault.word, fault.what, right_bytes(fault.word, data))
+        return None
+    found = first_breach(path, data, TEXTS[kind])
     if found and data.startswith(tuple(MAGIC.values())):
         return Answer(path, found.place, found.kind, f"{KINDS[kind]} is read here, and the file holds {content(data[:512])}")
     return found
-
-
-def answer_of(path: str, data: bytes, refusal: Refusal, what: str) -> Answer:
-    return at_token(path, data, refusal.token, f"{what} refused {refusal.word}", refusal.rule, refusal.right)
 
 
 def stuck_by_cost(prog: str, settings: Settings):
@@ -105,31 +85,33 @@ def stuck_at(prog: str, width: int, settings: Settings) -> dict[str, str]:
 def script_refusals(path: str, data: bytes, table: Table, entries: dict[str, Entry], stuck, is_guarded=False,
                     prog: str = "") -> list[Answer]:
     """The instructions of a script that are refused on a table, with the entries of a program file."""
-    instructions, _ = read_script(path, data)
-    found = refused(instructions, Checker(table.copy(), entries, stuck, prog), is_guarded)
-    return [answer_of(path, data, refusal, f"instruction {number}") for number, refusal in found]
+    found = refused(read_script(data), Checker(table.copy(), entries, stuck, prog), is_guarded)
+    return [refusal.answer(path, data, f"instruction {number}") for number, refusal in found]
 
 
 def query_refusals(path: str, data: bytes, table: Table) -> list[Answer]:
     """Why a query is refused on a table."""
-    nodes, fault = read_query(path, data)
-    refusal = None if fault else scan_refusal(nodes, table)
-    return [answer_of(path, data, refusal, "query")] if refusal else []
+    try:
+        check_scan(read_query(data), table)
+    except Breach as refusal:
+        return [refusal.answer(path, data, "query")]
+    return []
 
 
 def flips_fault(path: str, data: bytes, script: tuple[str, bytes], table: Table) -> list[Answer]:
-    """The first fault of a text of flips for a script and an image."""
-    answer = explain_flips(path, data, len(read_script(*script)[0]), table)
-    return [answer] if answer else []
+    """The first fault of a text of flips for a script and an image, or that of the script."""
+    wrong = first_fault("script", *script)
+    found = wrong or first_breach(path, data, check_flips, len(read_script(script[1])), table)
+    return [found] if found else []
 
 
 def long_guarded(path: str, data: bytes) -> list[Answer]:
     """The first instruction that names an object of a name too long to be guarded."""
-    for number, one in enumerate(read_script(path, data)[0], 1):
+    for number, one in enumerate(read_script(data), 1):
         token = next((operand.name for operand in one.operands if len(operand.name.text) > GUARDED_NAME_MAX), None)
         if token:
-            return [at_token(path, data, token, f"guard name {number}", f"a guarded object has a name of at most {GUARDED_NAME_MAX} "
-                             "bytes, since its copies have a letter more", ())]
+            return [Breach(token, f"guard name {number}", f"a guarded object has a name of at most {GUARDED_NAME_MAX} bytes, since its copies "
+                           "have a letter more").answer(path, data)]
     return []
 
 

@@ -6,17 +6,16 @@ scan is refused; with PROG and a width N after an operation text, what `verify` 
 needs SCRIPT and IMAGE. The status is 0 without a fault, else 1.
 """
 
-import argparse
 import os
 
+from ..files.image import Table
 from ..files.program import Program
 from ..files.store import load
-from ..files.table import Table
 from ..launcher import run_program
 from ..launcher.commands import KINDS, MAGIC
 from ..launcher.faults import Fault
 from ..launcher.settings import Settings
-from ..launcher.tool_parser import tool_parser
+from ..launcher.tool_parser import Asked, option, tool
 from ..launcher.words import wrong_number
 from . import answers
 from .answer import Answer
@@ -56,19 +55,13 @@ def kind_of(path: str) -> tuple[str, bytes]:
     return by_magic or ENDINGS.get(os.path.splitext(path)[1]) or by_first_word(data), data
 
 
-def of_script(path: str, data: bytes, beside: dict, settings: Settings) -> list[Answer]:
-    """The refusals of a script on an image, by a program."""
-    prog, image = beside["program"], beside["image"]
-    entries = {entry.name: entry for entry in Program.read(prog[1], prog[0]).entries}
-    return answers.script_refusals(path, data, Table.read(image[1], image[0]), entries, answers.stuck_by_cost(prog[0], settings),
-                                   prog=prog[0])
-
-
 def check_beside(path: str, kind: str, beside: dict, width: int) -> None:
     """Refuses files that say nothing beside this one, and a script's program or an operation text's without what else they need."""
     for other, (name, _) in beside.items():
         if other not in BESIDE.get(kind, ()):
             raise Fault(f"{name} is {KINDS[other]}, which tells nothing about {path}, {KINDS[kind]}; usage: explain {FORMS.get(kind, 'FILE')}")
+    if kind == "flips" and not {"script", "image"} <= beside.keys():
+        raise Fault(f"{path} is a text of flips: name the script and the image too, which limit its numbers")
     if kind == "script" and len(beside) == 1:
         raise Fault(f"{path} is a script: name both a program file and an image to see its refusals")
     if (kind == "ops" and bool(beside)) != bool(width):
@@ -85,35 +78,23 @@ def of_ops(path: str, data: bytes, beside: dict, width: int, settings: Settings)
     return answers_on(verdicts_of(ended.out), shapes_of(path, data), program, prog, width)
 
 
-def of_flips(path: str, data: bytes, beside: dict) -> list[Answer]:
-    """The fault of a text of flips."""
-    if not {"script", "image"} <= beside.keys():
-        raise Fault(f"{path} is a text of flips: name the script and the image too, which limit its numbers")
-    return answers.flips_fault(path, data, beside["script"], Table.read(beside["image"][1], beside["image"][0]))
-
-
 def found_in(path: str, beside: dict, width: int, settings: Settings) -> list[Answer]:
     """What is wrong with a file, beside others; a width is 0 where none is named."""
     kind, data = kind_of(path)
     check_beside(path, kind, beside, width)
-    if kind == "flips":
-        return of_flips(path, data, beside)
-    fault = answers.first_fault(kind, path, data)
+    fault = answers.first_fault(kind, path, data) if kind != "flips" else None
     if fault:
         return [fault]
-    if kind == "script" and {"program", "image"} <= beside.keys():
-        return of_script(path, data, beside, settings)
+    table = Table.read(beside["image"][1], beside["image"][0]) if "image" in beside else None
+    if kind == "flips":
+        return answers.flips_fault(path, data, beside["script"], table)
+    if kind == "script" and beside:
+        prog, file = beside["program"]
+        entries = {entry.name: entry for entry in Program.read(file, prog).entries}
+        return answers.script_refusals(path, data, table, entries, answers.stuck_by_cost(prog, settings), prog=prog)
     if kind == "ops" and beside:
         return of_ops(path, data, beside, width, settings)
-    if kind == "query" and "image" in beside:
-        return answers.query_refusals(path, data, Table.read(beside["image"][1], beside["image"][0]))
-    return []
-
-
-def parser() -> argparse.ArgumentParser:
-    made = tool_parser("explain", __name__, "FILE")
-    made.add_argument("beside", metavar="BESIDE", nargs="*", default=[])
-    return made
+    return answers.query_refusals(path, data, table) if table else []
 
 
 def width_of(words: list[str]) -> int:
@@ -126,8 +107,8 @@ def width_of(words: list[str]) -> int:
     return int(words.pop())
 
 
-def main(words: list[str], settings: Settings) -> int:
-    asked = parser().parse_args(words)
+@tool("FILE", option("beside", "BESIDE", nargs="*", default=[]))
+def main(asked: Asked, settings: Settings) -> int:
     width, beside = width_of(asked.beside), {}
     for path in asked.beside:
         kind, data = kind_of(path)

@@ -1,7 +1,7 @@
 """Texts of flips: the first line that breaks a rule of docs/FORMATS.md."""
 
-from ..files.table import Table
-from .answer import Answer, Breach
+from ..files.image import Table
+from .answer import Breach
 from .script_rules import lines_of
 from .tokens import NUMBER, STRANGER, no_token, value_of
 
@@ -27,12 +27,8 @@ def check_line(line, least: int, instructions: int, table: Table) -> int:
     return value_of(words[0].text)
 
 
-def explain_flips(path: str, data: bytes, instructions: int, table: Table) -> Answer | None:
-    """The first fault of a text of flips, for a script of so many instructions and an image."""
+def check_flips(data: bytes, instructions: int, table: Table) -> None:
+    """Refuses the first line that breaks a rule, for a script of so many instructions and an image."""
     least = 1
     for line in lines_of(data):
-        try:
-            least = check_line(line, least, instructions, table)
-        except Breach as breach:
-            return breach.answer(path, data)
-    return None
+        least = check_line(line, least, instructions, table)

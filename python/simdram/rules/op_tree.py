@@ -108,21 +108,15 @@ class Op:
         return f"op {name or self.name}({takes}) -> {gives} {{\n{body_text(self.body if body is None else body)}}}\n"
 
 
-def block_lines(block: Block) -> list[str]:
-    states = ", ".join(f"{name} = {start}" for name, start in block.states)
-    lines = [f"  serial {block.direction} ({states}) {{"]
-    lines += [f"    let {name} = {value};" for name, value in block.lets]
-    lines += [f"    {name} = {value};" for name, value in block.assigns]
-    return [*lines, "  }"]
-
-
 def body_text(body: Body) -> str:
     lines: list[str] = []
     for one in body:
         if isinstance(one, WordStatement):
             lines.append(f"  {', '.join(one.targets)} = {one.op}({', '.join(one.args)});")
         else:
-            lines += block_lines(one)
+            lines.append(f"  serial {one.direction} ({', '.join(f'{name} = {start}' for name, start in one.states)}) {{")
+            lines += [f"    let {name} = {value};" for name, value in one.lets]
+            lines += [*(f"    {name} = {value};" for name, value in one.assigns), "  }"]
     return "".join(f"{line}\n" for line in lines)
 
 

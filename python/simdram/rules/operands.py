@@ -3,9 +3,8 @@
 import dataclasses
 import typing
 
-from ..files.image import Object
-from ..files.table import Table
-from .answer import Breach, Refusal, near
+from ..files.image import Object, Table
+from .answer import Breach, near
 from .tokens import NAME_MAX, NUMBER, Token, is_long, value_of
 
 WIDTH_MAX = 128
@@ -42,20 +41,19 @@ class Operand(typing.NamedTuple):
         found = table.find(self.name.text)
         return dataclasses.replace(found, name=self.text, base=found.base + self.low, width=self.high - self.low) if self.ends else found
 
-    def absent(self, table: Table, place: int) -> Refusal | None:
-        """The refusal of a name that no object has."""
-        if table.find(self.name.text):
-            return None
+    def check_object(self, table: Table, place: int) -> None:
+        """Refuses a name that no object has."""
         names = [one.name for one in table.objects]
-        return Refusal(f"no_object {place}", self.name, f"no object has the name {self.name.text}{near(self.name.text, names)}",
-                       (f"objects: {', '.join(names) or 'none'}",))
+        if self.name.text not in names:
+            raise Breach(self.name, f"no_object {place}", f"no object has the name {self.name.text}{near(self.name.text, names)}",
+                         f"objects: {', '.join(names) or 'none'}")
 
-    def past(self, table: Table, place: int) -> Refusal | None:
-        """The refusal of bits that its object does not have."""
+    def check_rows(self, table: Table, place: int) -> None:
+        """Refuses bits that its object does not have."""
         found = table.find(self.name.text)
-        if not self.ends or self.high <= found.width:
-            return None
-        return Refusal(f"slice {place}", self.ends[-1], f"{self.text} has bit {self.high - 1}, and the highest bit of {found.name} is {found.width - 1}")
+        if self.ends and self.high > found.width:
+            raise Breach(self.ends[-1], f"slice {place}", f"{self.text} has bit {self.high - 1}, and the highest bit of {found.name} is "
+                         f"{found.width - 1}")
 
     def check_name(self) -> None:
         """Refuses a name that is too long."""

@@ -4,7 +4,7 @@ import typing
 
 from ..launcher.faults import Fault
 from . import word_ops
-from .answer import Answer, Breach, near
+from .answer import Breach, near
 from .op_shapes import OpShape, Statement
 from .op_tree import Expr, Op, gate, read
 from .tokens import END, NAME, NAME_MAX, STRANGER, Token, is_long, no_token, tokens
@@ -323,10 +323,17 @@ class Reader:
 
     def gate(self, token: Token, depth: int) -> Expr:
         """A gate inside so many others."""
-        self.check_gate(token, depth)
+        name, block = token.text, self.shape.last_statement
+        if name not in word_ops.GATES:
+            right = [f"the gates: {listed(word_ops.GATES)}"]
+            if name in word_ops.TAKES_GIVES:
+                right.insert(0, f"{name} is a word operation: it needs a statement of its own, outside of blocks")
+            raise Breach(token, "unknown", f"there is no gate {name}{near(name, word_ops.GATES)}", *right)
+        block.weight += word_ops.WEIGHTS[name]
+        self.limit(token, block.weight - 1, WEIGHT, "the gates of a block weigh at most {}: and, or, maj 1 each, xor 3, not 0")
+        self.limit(token, depth, DEPTH, "gates nest at most {} deep")
         self.take("`(`", "(")
-        name, args = token.text, [self.value(depth + 1)]
-        takes = word_ops.GATES[name]
+        args, takes = [self.value(depth + 1)], word_ops.GATES[name]
         while True:
             after = self.take("`,` and one more argument, or `)`", ",", ")")
             if after.text == ")":
@@ -338,35 +345,25 @@ class Reader:
             raise Breach(after, "kind", f"{name} has too few arguments", f"{name} takes {takes}")
         return gate(name, *args)
 
-    def check_gate(self, token: Token, depth: int) -> None:
-        """Refuses a name that is no gate, and one gate too many."""
-        name, block = token.text, self.shape.last_statement
-        if name not in word_ops.GATES:
-            right = [f"the gates: {listed(word_ops.GATES)}"]
-            if name in word_ops.TAKES_GIVES:
-                right.insert(0, f"{name} is a word operation: it needs a statement of its own, outside of blocks")
-            raise Breach(token, "unknown", f"there is no gate {name}{near(name, word_ops.GATES)}", *right)
-        block.weight += word_ops.WEIGHTS[name]
-        self.limit(token, block.weight - 1, WEIGHT, "the gates of a block weigh at most {}: and, or, maj 1 each, xor 3, not 0")
-        self.limit(token, depth, DEPTH, "gates nest at most {} deep")
+
+def read_shapes(data: bytes) -> list[OpShape]:
+    """What a text that the program accepts says of each op."""
+    reader = Reader(data)
+    reader.read()
+    return reader.shapes
 
 
 def read_ops(data: bytes) -> list[Op]:
     """The ops of a text that the program accepts, as trees."""
-    reader = Reader(data)
-    reader.read()
-    return [shape.tree() for shape in reader.shapes]
+    return [shape.tree() for shape in read_shapes(data)]
 
 
 def shapes_of(path: str, data: bytes) -> list[OpShape]:
     """What an operation text says of each op."""
-    reader = Reader(data)
     try:
-        reader.read()
+        return read_shapes(data)
     except Breach as breach:
-        answer = breach.answer(path, data)
-        raise Fault(f"{path} {answer.place}: {answer.kind}: {answer.rule}") from None
-    return reader.shapes
+        raise breach.fault(path, data) from None
 
 
 def op_shape(path: str, data: bytes, name: str) -> OpShape:
@@ -376,12 +373,3 @@ def op_shape(path: str, data: bytes, name: str) -> OpShape:
     if found is None:
         raise Fault(f"{path} has no op {name}: it has {listed(shape.name for shape in shapes)}")
     return found
-
-
-def explain_ops(path: str, data: bytes) -> Answer | None:
-    """The first fault of an operation text, or nothing where there is none."""
-    try:
-        Reader(data).read()
-    except Breach as breach:
-        return breach.answer(path, data)
-    return None

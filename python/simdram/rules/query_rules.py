@@ -3,7 +3,7 @@
 import typing
 
 from ..launcher.words import nearest
-from .answer import Answer, Breach
+from .answer import Breach
 from .operands import FORM, Operand
 from .tokens import END, NAME, NUMBER, STRANGER, Token, no_token, tokens, value_of
 
@@ -137,11 +137,8 @@ class Reader:
             raise self.wrong(token, "the end of the text", "a text has one query: combine two with and(Q, Q) or or(Q, Q)")
 
 
-def read_query(path: str, data: bytes) -> tuple[list[Node], Answer | None]:
-    """The nodes of a query, and its first fault."""
+def read_query(data: bytes) -> list[Node]:
+    """The nodes of a query."""
     reader = Reader(data)
-    try:
-        reader.read()
-    except Breach as breach:
-        return reader.nodes, breach.answer(path, data)
-    return reader.nodes, None
+    reader.read()
+    return reader.nodes

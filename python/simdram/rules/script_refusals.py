@@ -1,37 +1,30 @@
-"""Which instructions of a script are refused on a table of objects, why, and what would be right."""
+"""Which instructions of a script, and why a scan, is refused on a table of objects, and what would be right."""
 
 import dataclasses
 import typing
 
 from ..assembler.one_width import one_width, other_width
 from ..assembler.text_lines import place_of
-from ..files.image import OBJECTS, SPILL_ROWS, Object
+from ..files.image import OBJECTS, ROWS_MAX, SPILL_ROWS, Object, Table
 from ..files.program import Entry
-from ..files.table import ROWS_MAX, Table
-from .answer import Refusal, near
+from .answer import Breach, near
 from .operands import Operand
+from .query_rules import Node
 from .script_rules import Instruction
-from .tokens import Token
+from .tokens import Token, value_of
 
 # of each entry and width, where its walk is stuck and why, or nothing
 Stuck = typing.Callable[[str, int], str | None]
 COPIES = "xyz"
 
 
-def no_rows(table: Table, token: Token, size: int, what: str) -> Refusal:
+def no_rows(table: Table, token: Token, size: int, what: str) -> Breach:
     """The refusal for want of free rows in one piece."""
     rows = table.rows_for(size)
     right = (f"it would fit with {rows} rows per bank; this image has {table.rows}" if rows <= ROWS_MAX else
              f"it would need {rows} rows per bank; an image has at most {ROWS_MAX}")
-    return Refusal("no_rows", token, f"{what} needs {size} adjacent rows, and the longest free piece has {table.longest()}; "
-                   f"the last {SPILL_ROWS} rows of a bank are reserved for spills", (right, "a `free` before, or objects of equal width, help too"))
-
-
-def with_own_name(refusal: Refusal, copies: tuple[Operand, ...]) -> Refusal:
-    """A refusal on a copy at the name that the script has."""
-    token = refusal.token
-    is_copy = any(token is one.name for one in copies)
-    return dataclasses.replace(refusal, token=token._replace(text=token.text[1:])) if is_copy else refusal
+    return Breach(token, "no_rows", f"{what} needs {size} adjacent rows, and the longest free piece has {table.longest()}; "
+                   f"the last {SPILL_ROWS} rows of a bank are reserved for spills", right, "a `free` before, or objects of equal width, help too")
 
 
 class Checker:
@@ -40,138 +33,125 @@ class Checker:
     def __init__(self, table: Table, entries: dict[str, Entry], stuck: Stuck, prog: str = "") -> None:
         self.table, self.entries, self.stuck, self.prog = table, entries, stuck, prog
 
-    def step(self, one: Instruction) -> Refusal | None:
-        """Does an instruction, or says why it is refused."""
-        return getattr(self, f"do_{one.verb}")(one)
+    def step(self, one: Instruction) -> None:
+        """Does an instruction, or raises why it is refused."""
+        getattr(self, f"do_{one.verb}")(one)
 
-    def guarded(self, one: Instruction) -> Refusal | None:
+    def guarded(self, one: Instruction) -> None:
         """Does an instruction on the three copies of its objects, or on none."""
-        before = self.table
-        self.table = before.copy()
+        before, self.table = self.table, self.table.copy()
         for letter in COPIES if one.verb != "order" else "":
             copies = tuple(operand.of_copy(letter) for operand in one.operands)
-            refusal = self.step(dataclasses.replace(one, operands=copies))
-            if refusal:
+            try:
+                self.step(dataclasses.replace(one, operands=copies))
+            except Breach as refusal:
                 self.table = before
-                return with_own_name(refusal, copies)
-        return None
+                if any(refusal.token is copy.name for copy in copies):  # the script has the name without its letter
+                    refusal.token = refusal.token._replace(text=refusal.token.text[1:])
+                raise
 
     # objects
 
-    def do_order(self, _one: Instruction) -> Refusal | None:
-        return None
+    def do_order(self, _one: Instruction) -> None:
+        pass
 
-    def do_bbop_trsp_init(self, one: Instruction) -> Refusal | None:
+    def do_bbop_trsp_init(self, one: Instruction) -> None:
         token, count, width, table = one.operands[0].name, one.number(0), one.number(1), self.table
         if table.find(token.text):
-            return Refusal("exists", token, f"an object {token.text} already exists", (f"`free {token.text}` before removes it",))
+            raise Breach(token, "exists", f"an object {token.text} already exists", f"`free {token.text}` before removes it")
         if len(table.objects) == OBJECTS:
-            return Refusal("table_full", token, f"the table has {OBJECTS} objects already", ("`free` one before",))
+            raise Breach(token, "table_full", f"the table has {OBJECTS} objects already", "`free` one before")
         if count > table.room:
-            return Refusal("too_large", one.numbers[0], f"{count} elements; an object of this image has at most {table.room}: "
-                           f"64 columns for each of {table.words} words in {table.banks} banks")
+            raise Breach(one.numbers[0], "too_large", f"{count} elements; an object of this image has at most {table.room}: "
+                         f"64 columns for each of {table.words} words in {table.banks} banks")
         base = table.least_free(width)
         if base is None:
-            return no_rows(table, one.numbers[1], width, f"an object of {width} bits")
+            raise no_rows(table, one.numbers[1], width, f"an object of {width} bits")
         table.objects.append(Object(token.text, width, base, count))
-        return None
 
-    def do_free(self, one: Instruction) -> Refusal | None:
-        refusal = self.places(one)
-        if not refusal:
-            self.table.objects.remove(self.table.find(one.operands[0].name.text))
-        return refusal
+    def do_free(self, one: Instruction) -> None:
+        self.places(one)
+        self.table.objects.remove(self.table.find(one.operands[0].name.text))
 
-    def places(self, one: Instruction) -> Refusal | None:
-        """The first operand that no object is, then the first whose bits its object does not have."""
-        absent = (operand.absent(self.table, place) for place, operand in enumerate(one.operands))
-        past = (operand.past(self.table, place) for place, operand in enumerate(one.operands))
-        return next(filter(None, absent), None) or next(filter(None, past), None)
+    def places(self, one: Instruction) -> None:
+        """Refuses the first operand that no object is, then the first whose bits its object does not have."""
+        for check in (Operand.check_object, Operand.check_rows):
+            for place, operand in enumerate(one.operands):
+                check(operand, self.table, place)
 
     do_print = places
 
-    def do_load(self, one: Instruction) -> Refusal | None:
-        return self.places(one) or self.count_of(one) or self.range_of(one)
-
-    def count_of(self, one: Instruction) -> Refusal | None:
-        """Not as many values as elements."""
+    def do_load(self, one: Instruction) -> None:
+        self.places(one)
         found = one.operands[0].rows(self.table)
-        if len(one.numbers) == found.count:
-            return None
-        return Refusal("count", one.operands[0].name, f"{len(one.numbers)} values for the {found.count} elements of {found.name}",
-                       (f"`fill {found.name}, V` sets all of them to one value",))
+        if len(one.numbers) != found.count:
+            raise Breach(one.operands[0].name, "count", f"{len(one.numbers)} values for the {found.count} elements of {found.name}",
+                         f"`fill {found.name}, V` sets all of them to one value")
+        self.do_fill(one)
 
-    def do_fill(self, one: Instruction) -> Refusal | None:
-        return self.places(one) or self.range_of(one)
-
-    def range_of(self, one: Instruction) -> Refusal | None:
-        """The first value that the operand does not hold."""
+    def do_fill(self, one: Instruction) -> None:
+        self.places(one)
         found = one.operands[0].rows(self.table)
-        for k in range(len(one.numbers)):
+        for k, token in enumerate(one.numbers):
             if one.number(k) >= 2**found.width:
-                return Refusal(f"range {k + 1}", one.numbers[k], f"{found.name} has {bits(found.width)}, which hold{'s' * (found.width == 1)} 0 to "
-                               f"{2**found.width - 1}")
-        return None
+                raise Breach(token, f"range {k + 1}", f"{found.name} has {bits(found.width)}, which hold{'s' * (found.width == 1)} 0 to "
+                             f"{2**found.width - 1}")
 
     # operations
 
-    def do_bbop(self, one: Instruction) -> Refusal | None:
+    def do_bbop(self, one: Instruction) -> None:
         entry = self.entries.get(one.op)
         if entry is None:
-            return Refusal("no_op", one.head, f"the program has no entry {one.op}{near(one.op, self.entries)}",
-                           (f"its entries: {', '.join(self.entries) or 'none'}",))
-        return (self.arity(one, entry) or self.places(one) or self.sizes(one, entry) or self.overlap(one, entry)
-                or self.walk(one, entry))
+            raise Breach(one.head, "no_op", f"the program has no entry {one.op}{near(one.op, self.entries)}",
+                         f"its entries: {', '.join(self.entries) or 'none'}")
+        if len(one.operands) != len(entry.results) + len(entry.sources):
+            raise Breach(one.head, "arity", f"{len(one.operands)} names; {entry.name} has {len(entry.results)} result"
+                         f"{'s' * (len(entry.results) > 1)} and {len(entry.sources)} source{'s' * (len(entry.sources) > 1)}",
+                         f"results come first: {form_of(entry)}")
+        self.places(one)
+        found = [operand.rows(self.table) for operand in one.operands]
+        self.sizes(one, entry, found)
+        self.overlap(one, entry, found)
+        self.walk(one, entry)
 
-    def arity(self, one: Instruction, entry: Entry) -> Refusal | None:
-        wanted = len(entry.results) + len(entry.sources)
-        if len(one.operands) == wanted:
-            return None
-        return Refusal("arity", one.head, f"{len(one.operands)} names; {entry.name} has {len(entry.results)} result"
-                       f"{'s' * (len(entry.results) > 1)} and {len(entry.sources)} source{'s' * (len(entry.sources) > 1)}",
-                       (f"results come first: {form_of(entry)}",))
-
-    def sizes(self, one: Instruction, entry: Entry) -> Refusal | None:
+    def sizes(self, one: Instruction, entry: Entry, found: list[Object]) -> None:
         """The widths of the operands, then their counts."""
         count, width = one.number(0), one.number(1)
-        found = [(operand.name, operand.rows(self.table)) for operand in one.operands]
-        for place, ((token, rows), kind) in enumerate(zip(found, (*entry.results, *entry.sources))):
+        for place, (rows, kind) in enumerate(zip(found, (*entry.results, *entry.sources))):
             if rows.width != (width if kind == "word" else 1):
                 what = f"a word of {bits(width)}" if kind == "word" else "a bit"
-                return Refusal(f"width {place}", token, f"{rows.name} is {bits(rows.width)} wide; {entry.name} expects {what}", (form_of(entry),))
-        for place, (token, rows) in enumerate(found):
+                raise Breach(one.operands[place].name, f"width {place}", f"{rows.name} is {bits(rows.width)} wide; {entry.name} expects {what}",
+                             form_of(entry))
+        for place, rows in enumerate(found):
             if rows.count != count:
-                return Refusal(f"size {place}", token, f"{rows.name} has {rows.count} elements; COUNT is {count}")
-        return None
+                raise Breach(one.operands[place].name, f"size {place}", f"{rows.name} has {rows.count} elements; COUNT is {count}")
 
-    def overlap(self, one: Instruction, entry: Entry) -> Refusal | None:
+    @staticmethod
+    def overlap(one: Instruction, entry: Entry, found: list[Object]) -> None:
         """An operand that shares a bit with a destination before it."""
-        found = [operand.rows(self.table) for operand in one.operands]
         for place, rows in enumerate(found):
             other = next((one for one in found[:min(place, len(entry.results))] if one.meets(rows)), None)
             if other:
                 role = "the first destination" if place < len(entry.results) else "a destination"
                 whole = f"{rows.name} is {role} {'too' if place < len(entry.results) else 'and a source'}"
                 shared = whole if rows.name == other.name else f"{rows.name} has bits of {other.name}, {role}"
-                return Refusal(f"overlap {place}", one.operands[place].name, f"{shared}, and a result is written before all sources are read",
-                               ("give the result an object, or bits, of its own",))
-        return None
+                raise Breach(one.operands[place].name, f"overlap {place}", f"{shared}, and a result is written before all sources are read",
+                             "give the result an object, or bits, of its own")
 
-    def walk(self, one: Instruction, entry: Entry) -> Refusal | None:
+    def walk(self, one: Instruction, entry: Entry) -> None:
         """A walk that is stuck, or rows of scratch that are not there."""
         width = one.number(1)
         stuck = self.stuck(entry.name, width)
         other = other_width(entry, width)
         if stuck and other:
-            return Refusal(f"bad_walk {stuck}", one.head, f"{other}, and N is {width}", (f"an object of {one_width(entry)} bits has that width",))
+            raise Breach(one.head, f"bad_walk {stuck}", f"{other}, and N is {width}", f"an object of {one_width(entry)} bits has that width")
         if stuck:
             at = int(stuck.split()[0])
-            return Refusal(f"bad_walk {stuck}", one.head, f"the microprogram of {entry.name} is stuck at the width {width}, at instruction "
-                           f"{at}{place_of(self.prog, entry, at).rstrip(',')}", ("no compiled program is; `simdram list PROG` shows the instructions",))
+            raise Breach(one.head, f"bad_walk {stuck}", f"the microprogram of {entry.name} is stuck at the width {width}, at instruction "
+                         f"{at}{place_of(self.prog, entry, at).rstrip(',')}", "no compiled program is; `simdram list PROG` shows the instructions")
         size = entry.bits + width * entry.words
         if self.table.least_free(size) is None:
-            return no_rows(self.table, one.head, size, f"the scratch of {entry.name} at the width {width}")
-        return None
+            raise no_rows(self.table, one.head, size, f"the scratch of {entry.name} at the width {width}")
 
 
 def bits(width: int) -> str:
@@ -185,11 +165,51 @@ def form_of(entry: Entry) -> str:
     return f"bbop_{entry.name} {', '.join(names)}, COUNT, N"
 
 
-def refused(instructions: list[Instruction], checker: Checker, is_guarded: bool = False) -> list[tuple[int, Refusal]]:
+def refused(instructions: list[Instruction], checker: Checker, is_guarded: bool = False) -> list[tuple[int, Breach]]:
     """The instructions that are refused, by their numbers from 1."""
     found = []
     for number, one in enumerate(instructions, 1):
-        refusal = checker.guarded(one) if is_guarded else checker.step(one)
-        if refusal:
+        try:
+            (checker.guarded if is_guarded else checker.step)(one)
+        except Breach as refusal:
             found.append((number, refusal))
     return found
+
+
+def check_comparisons(nodes: list[Node], table: Table) -> None:
+    """Refuses the first comparison that the image's objects do not fit; they are numbered from 0 in the order of the text."""
+    tests = [node for node in nodes if node.operand]
+    for k, node in enumerate(tests):
+        node.operand.check_object(table, k)
+        node.operand.check_rows(table, k)
+        found, name, leader = node.operand.rows(table), node.operand.name, table.find(tests[0].operand.name.text)
+        if found.count != leader.count:
+            raise Breach(name, f"count {k}", f"{name.text} has {found.count} elements; {leader.name} has {leader.count}",
+                         "all objects of a query have the same number of elements")
+        if value_of(node.number.text) >= 2**found.width:
+            raise Breach(node.number, f"range {k}", f"{found.name} has {found.width} bits, which hold 0 to {2**found.width - 1}")
+
+
+def make(table: Table, node: Node, k: int, width: int, count: int) -> Object:
+    """One more object of a scan, under the first free of its names."""
+    if len(table.objects) == OBJECTS:
+        raise Breach(node.lead, f"table_full {k}", f"the scan makes an object here, but the table is full with {OBJECTS}")
+    base = table.least_free(width)
+    if base is None:
+        refusal = no_rows(table, node.lead, width, "an object that the scan makes here")
+        raise Breach(refusal.token, f"no_rows {k}", refusal.rule, *refusal.right[:1])
+    name = next(name for name in (f"scan_{number}" for number in range(OBJECTS + 1)) if not table.find(name))
+    table.objects.append(Object(name, width, base, count))
+    return table.objects[-1]
+
+
+def check_scan(nodes: list[Node], table: Table) -> None:
+    """Refuses a query that does not fit the image's objects, and else the first node that has no room."""
+    check_comparisons(nodes, table)
+    count, table = next(node for node in nodes if node.operand).operand.rows(table).count, table.copy()
+    results: list[Object] = []
+    for k, node in enumerate(nodes):
+        taken = [make(table, node, k, node.operand.rows(table).width, count)] if node.operand else [results[place] for place in node.sources]
+        results.append(make(table, node, k, 1, count))
+        for one in taken:
+            table.objects.remove(one)

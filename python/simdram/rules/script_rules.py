@@ -4,9 +4,8 @@ import dataclasses
 import typing
 
 from ..files.store import load
-from ..launcher.faults import Fault
 from ..launcher.words import nearest
-from .answer import Answer, Breach
+from .answer import Breach
 from .operands import WIDTH_MAX, Operand, operand_at
 from .tokens import END, NAME, NAME_MAX, NUMBER, STRANGER, Token, is_long, no_token, tokens, value_of
 
@@ -116,23 +115,18 @@ def check_shape(verb: str, operands: list[Operand], numbers: list[Token], end: T
                      f"{'is' if fewest == 1 else 'are'} expected", form)
 
 
-def check_names(one: Instruction) -> None:
-    """Whether the names are short enough, and the operation's name is one."""
-    if one.verb == "bbop" and (not one.op or one.op[0].isdigit() or is_long(one.op)):
-        raise Breach(one.head, "bad_name", f"bbop_ is followed by the name of an operation, of 1 to {NAME_MAX} bytes")
-    for operand in one.operands:
-        operand.check_name()
-
-
 def check_range(token: Token, least: int, most: int, what: str) -> None:
     if not least <= value_of(token.text) <= most:
         raise Breach(token, "bad_number", f"{what} is {least} to {most}")
 
 
-def check_numbers(one: Instruction) -> None:
-    """Whether each number is one that may stand there, those of bits first."""
-    for operand in one.operands:
-        operand.check_bits()
+def check_words(one: Instruction) -> None:
+    """Whether the names are short enough and the operation's name is one, and then whether each number may stand where it does."""
+    if one.verb == "bbop" and (not one.op or one.op[0].isdigit() or is_long(one.op)):
+        raise Breach(one.head, "bad_name", f"bbop_ is followed by the name of an operation, of 1 to {NAME_MAX} bytes")
+    for check in (Operand.check_name, Operand.check_bits):
+        for operand in one.operands:
+            check(operand)
     if one.verb in ("bbop", "bbop_trsp_init"):
         check_range(one.numbers[0], 1, COUNT_MAX, "COUNT, the number of elements,")
         check_range(one.numbers[1], 1, WIDTH_MAX, "N, the width,")
@@ -167,8 +161,7 @@ def instruction_of(line: list[Token]) -> Instruction | None:
     operands, numbers = operands_of(verb, words)
     check_shape(verb, operands, numbers, line[-1])
     one = Instruction(verb, head, tuple(operands), tuple(numbers))
-    check_names(one)
-    check_numbers(one)
+    check_words(one)
     return one
 
 
@@ -180,23 +173,15 @@ def lines_of(data: bytes) -> typing.Iterator[list[Token]]:
         start += len(text) + 1
 
 
-def read_script(path: str, data: bytes) -> tuple[list[Instruction], Answer | None]:
-    """The instructions of a script up to the first line that breaks a rule, and that fault."""
-    found: list[Instruction] = []
-    for line in lines_of(data):
-        try:
-            one = instruction_of(line)
-        except Breach as breach:
-            return found, breach.answer(path, data)
-        if one is not None:
-            found.append(one)
-    return found, None
+def read_script(data: bytes) -> list[Instruction]:
+    """The instructions of a script."""
+    return list(filter(None, map(instruction_of, lines_of(data))))
 
 
 def loaded_script(path: str) -> tuple[list[Instruction], bytes]:
     """The instructions of a script's file, and its bytes."""
     data = load(path, "script")
-    found, fault = read_script(path, data)
-    if fault:
-        raise Fault(f"{path} {fault.place}: {fault.kind}: {fault.rule}")
-    return found, data
+    try:
+        return read_script(data), data
+    except Breach as breach:
+        raise breach.fault(path, data) from None

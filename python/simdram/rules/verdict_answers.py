@@ -56,18 +56,14 @@ def named(numbers, names) -> str:
     return str(numbers[0]) if len(numbers) == 1 else " and ".join(f"{name}={number}" for name, number in zip(names, numbers))
 
 
-def gives_from_zeros(verdict: Verdict, entry: Entry, n: int) -> tuple[int, ...]:
-    """What an entry gives for a case's numbers where all cells and rows but the sources hold 0 at the start."""
-    column = Column(entry, n, list(verdict.operands.values()), ())
-    for _ in column.run():
-        pass
-    return tuple(int(column.result(which)) for which in range(len(entry.results)))
-
-
 def of_start(verdict: Verdict, shape: OpShape, entry: Entry, n: int) -> str:
     """What a case's start has to do with it."""
     cells = " and ".join([", ".join(verdict.start[:-1])] * (len(verdict.start) > 1) + [verdict.start[-1]])
-    found = gives_from_zeros(verdict, entry, n)
+    # what the entry gives where all cells and rows but the sources hold 0 at the start
+    column = Column(entry, n, list(verdict.operands.values()), ())
+    for _ in column.run():
+        pass
+    found = tuple(int(column.result(which)) for which in range(len(entry.results)))
     if found == verdict.wanted:
         held, each = ("it holds", "it") if len(verdict.start) == 1 else ("they hold", "each of them")
         return (f"where {held} 0 the result is right, so it depends on what {cells} held before the first command: set {each} before it "
@@ -107,19 +103,6 @@ def head_of(shape: OpShape) -> str:
     return f"program {shape.name}({operands}) -> {results}"
 
 
-def of_missing(verdict: Verdict, program: Program) -> tuple[str, tuple[str, ...]]:
-    """An op without an entry."""
-    names = [entry.name for entry in program.entries]
-    return f"no entry has this name; the entries are {listed(names)}{near(verdict.name, names)}", (
-        "an entry is looked for by the op's name; `simdram link` joins program files",)
-
-
-def of_unknown(limit: str, n: int) -> tuple[str, tuple[str, ...]]:
-    """An entry of which nothing is known."""
-    return (f"{LIMITS[limit]}: at width {n} it is not known whether the entry is right",
-            ("verify it at smaller widths, as 1 to 8; products, quotients and what mixes many bits of scratch grow fastest",))
-
-
 def answer_on(verdict: Verdict, shape: OpShape, program: Program, prog: str, n: int) -> Answer:
     """What a verdict other than `right` means."""
     kind = f"{verdict.kind} {verdict.at} {verdict.why}" if verdict.kind == BAD_WALK else verdict.kind
@@ -131,8 +114,13 @@ def answer_on(verdict: Verdict, shape: OpShape, program: Program, prog: str, n: 
     elif verdict.kind == OTHER_KINDS:
         said = (f"the op takes and gives other kinds than the entry, whose head is `{head_line(entries[verdict.name])}`",
                 (f"the op asks for `{head_of(shape)}`; names and scratch may be others",))
+    elif verdict.kind == NO_ENTRY:
+        names = list(entries)
+        said = (f"no entry has this name; the entries are {listed(names)}{near(verdict.name, names)}",
+                ("an entry is looked for by the op's name; `simdram link` joins program files",))
     else:
-        said = of_missing(verdict, program) if verdict.kind == NO_ENTRY else of_unknown(verdict.why, n)
+        said = (f"{LIMITS[verdict.why]}: at width {n} it is not known whether the entry is right",
+                ("verify it at smaller widths, as 1 to 8; products, quotients and what mixes many bits of scratch grow fastest",))
     return Answer(prog, f"entry {verdict.name}", kind, *said)
 
 

@@ -74,11 +74,8 @@ def gate_value(name: str, given: typing.Sequence[int], ones: int) -> int:
 def forms(name: str) -> list[tuple[list[str], list[str]]]:
     """What an operation may take and then gives, by kinds."""
     takes, gives = TAKES_GIVES[name]
-    letters = "wb" if "x" in takes else "w"
-    found = []
-    for letter in letters:
-        found.append(tuple([KIND_OF[letter if one == "x" else one] for one in part] for part in (takes, gives)))
-    return found
+    return [tuple([KIND_OF[letter if one == "x" else one] for one in part] for part in (takes, gives))
+            for letter in ("wb" if "x" in takes else "w")]
 
 
 def may_take(name: str, given: list[str], kind: str) -> bool:

@@ -32,7 +32,11 @@ class Side:
                 self.rest.append(one)
                 if isinstance(one, WordStatement) and one.op == "copy" and one.args[0] in self.key and one.targets[0] not in results:
                     self.key[one.targets[0]] = self.key[one.args[0]]
-        self._copy_results()
+        # a result that is itself cut becomes a copy of the unknown, under another name
+        self.results: Params = tuple((f"r_{name}"[:16] if name in self.key else name, kind) for name, kind in self.op.results)
+        for (name, _), (other, _) in zip(self.op.results, self.results):
+            if name in self.key:
+                self.rest.append(WordStatement((other,), "copy", (name,)))
         self.rest = live(self.rest, [name for name, _ in self.results])
         self.read = set(names_read(self.rest))
 
@@ -45,13 +49,6 @@ class Side:
         for name, op in zip(one.targets, ("div", "rem") if one.op == "divmod" else (one.op,)):
             self.key[name] = f"{op}({','.join(args)})"
         return True
-
-    def _copy_results(self) -> None:
-        """A result that is itself cut becomes a copy of the unknown, under another name."""
-        self.results: Params = tuple((f"r_{name}"[:16] if name in self.key else name, kind) for name, kind in self.op.results)
-        for (name, _), (other, _) in zip(self.op.results, self.results):
-            if name in self.key:
-                self.rest.append(WordStatement((other,), "copy", (name,)))
 
     def text(self, used: typing.Sequence[str]) -> str:
         """The op with what is cut as sources."""

@@ -1,12 +1,10 @@
 """Whether two texts of an op are equal at widths: by the program's `verify`, for all inputs."""
 
-import os
 import subprocess
-import tempfile
 import threading
 import typing
 
-from ..files.store import store
+from ..files.store import folder_of
 from ..launcher import run_program
 from ..rules.op_tree import Op
 from ..rules.verdicts import RIGHT, UNKNOWN, WRONG, verdicts_of
@@ -57,15 +55,10 @@ class Comparer:
 
     def by_texts(self, meant: str, made: str, widths: typing.Sequence[int], program: bytes = b"") -> dict[int, str]:
         """Of one op in two texts, at each width whether the second, whose program file may be known, does what the first means."""
-        with tempfile.TemporaryDirectory(prefix="simdram_") as folder:
-            store(os.path.join(folder, "meant"), meant.encode())
-            if program:
-                store(os.path.join(folder, "prog"), program)
-            else:
-                store(os.path.join(folder, "made"), made.encode())
-                compiled = self._run(["compile", "made", "prog"], folder)
-                if compiled is None or compiled.status:
-                    return dict.fromkeys(widths, UNKNOWN)
+        with folder_of(meant=meant.encode(), made=made.encode(), **({"prog": program} if program else {})) as folder:
+            compiled = None if program else self._run(["compile", "made", "prog"], folder)
+            if not program and (compiled is None or compiled.status):
+                return dict.fromkeys(widths, UNKNOWN)
             return {width: self._verdict(folder, width) for width in widths}
 
     def _verdict(self, folder: str, width: int) -> str:

@@ -20,22 +20,16 @@ def gates_of(expr: Expr) -> typing.Iterator[str]:
         yield from gates_of(arg)
 
 
-def features(block: Block, kinds: typing.Mapping[str, str]) -> typing.Counter[str]:
-    """What a block has at each position: gates, names that it reads, words that it writes, states that change."""
-    found = collections.Counter(gate for expr in block.expressions for gate in gates_of(expr))
-    states, own = dict(block.states), dict(block.states).keys() | dict(block.lets).keys()
-    read = {name for expr in block.expressions for name in expr.names()} - own
-    found[WORD] = sum(kinds[name] == WORD for name in read)
-    found[BIT] = len(read) - found[WORD]
-    found["state"] = sum(name in states for name, _ in block.assigns)
-    found["target"] = len(block.assigns) - found["state"]
-    found["one"] = 1
-    return found
-
-
 def guessed(one: Statement, kinds: typing.Mapping[str, str]) -> float:
     """A low guess at the commands of a position of a statement."""
     if isinstance(one, Block):
-        found = features(one, kinds)
+        found = collections.Counter(gate for expr in one.expressions for gate in gates_of(expr))
+        states, own = dict(one.states), dict(one.states).keys() | dict(one.lets).keys()
+        read = {name for expr in one.expressions for name in expr.names()} - own
+        found[WORD] = sum(kinds[name] == WORD for name in read)
+        found[BIT] = len(read) - found[WORD]
+        found["state"] = sum(name in states for name, _ in one.assigns)
+        found["target"] = len(one.assigns) - found["state"]
+        found["one"] = 1
         return OPTIMISM * max(1.0, sum(WEIGHTS[name] * count for name, count in found.items()))
     return WORD_OPS[one.op].each if all(kinds[arg] == WORD for arg in one.args[:2]) else 0.0

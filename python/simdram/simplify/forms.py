@@ -89,7 +89,7 @@ class Forms(Sums):
         if lit < 2 or graph.node(lit).is_leaf or len(graph.support[lit >> 1]) > CHAIN_LEAVES or len(words) < 2 \
                 or any(graph.nodes[leaf].kind == STATE for leaf in graph.leaves[lit >> 1]):
             return
-        picks = {word: self._with_leaves(lit, {2 * one: int(one == word) for one in words}) for word in words}
+        picks = {word: replaced(self.graph, lit, {2 * one: int(one == word) for one in words}, {}) for word in words}
         found = [one for one in (self._chain_by(lit, words, picks, k) for k in range(len(words))) if one]
         if found:
             _, s, x, y = min(found)
@@ -107,10 +107,6 @@ class Forms(Sums):
         if inner >> 1 == lit >> 1 or graph.gate("mux", picks[first], 2 * first, inner) != lit:
             return None
         return sum(len(graph.cone(picks[word])) for word in others), picks[first], 2 * first, inner
-
-    def _with_leaves(self, lit: int, values: dict[int, int]) -> int:
-        """The literal with leaves replaced."""
-        return replaced(self.graph, lit, values, {})
 
 
 # of each operation with a short rule, its value

@@ -82,12 +82,7 @@ class Items:
         roots = [*self.words, *(lit for _, _, lit in self.lowered.results), *map(self.rule, self.needed)]
         for lit in roots:
             self.graph.cone(lit, reached)
-        self._note_read(roots)
-        return [lit for lit in dict.fromkeys(self.lowered.optional)
-                if not {lit, lit ^ 1}.intersection(self.words) and lit >> 1 in reached and self.needs_row(lit)]
-
-    def _note_read(self, roots: list[int]) -> None:
-        """Notes which literals are read: an inverted and is an or of the opposites."""
+        # notes which literals are read: an inverted and is an or of the opposites
         todo = list(roots)
         while todo:
             lit = todo.pop()
@@ -95,6 +90,8 @@ class Items:
                 self.read.add(lit)
                 node = self.graph.node(lit)
                 todo += [arg ^ (lit & 1 if node.kind == "and" else 0) for arg in node.args]
+        return [lit for lit in dict.fromkeys(self.lowered.optional)
+                if not {lit, lit ^ 1}.intersection(self.words) and lit >> 1 in reached and self.needs_row(lit)]
 
     def bits_only(self, lit: int) -> bool:
         """Whether a literal is of bits and last values alone."""

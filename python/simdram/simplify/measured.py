@@ -1,16 +1,13 @@
 """What statements cost: each is measured once, in an op of its own, many to a call of the program."""
 
 import copy
-import os
 import subprocess
-import tempfile
 import threading
 import typing
 
 from ..costs.costs import cost_of
-from ..files.store import load, store
+from ..files.store import folder_of, load
 from ..launcher import run_program
-from ..launcher.faults import Fault
 from ..launcher.parallel import in_parallel
 from ..rules.op_tree import BIT, WORD, Body, Op, made_by
 from .estimate import guessed
@@ -76,8 +73,8 @@ class Measured:
             raise TimeOver from None
         if ended.status < 0:
             raise TimeOver
-        if ended.status not in (0, REFUSED):
-            raise Fault(f"{words[0]} ended with status {ended.status}: {ended.out.strip() or ended.err.strip()}")
+        if ended.status != REFUSED:
+            ended.check(words[0])
         return ended
 
     def check_time(self) -> None:
@@ -92,8 +89,7 @@ class Measured:
 
     def compiled(self, text: str, also: typing.Iterable[int] = ()) -> Compiled | None:
         """The program file of a text and the costs of its ops; nothing where the text is refused or an op is stuck."""
-        with tempfile.TemporaryDirectory(prefix="simdram_") as folder:
-            store(os.path.join(folder, "ops"), text.encode())
+        with folder_of(ops=text.encode()) as folder:
             if self.run(["compile", "ops", "prog"], folder).status:
                 return None
             found: list[Costs] = []
@@ -105,13 +101,18 @@ class Measured:
                 found = found or [{} for _ in costs]
                 for its, cost in zip(found, costs):
                     its[width] = Cost(cost.commands, cost.rows)
-            return Compiled(found, load(os.path.join(folder, "prog")))
+            return Compiled(found, load(f"{folder}/prog"))
 
     # statements
 
     def of_parts(self, bodies: typing.Sequence[Parts]) -> list[Costs | None]:
         """The costs of bodies; nothing where a statement is refused."""
-        self._measure([one for parts in bodies for one in parts.statements])
+        new = [one for one in dict.fromkeys(one for parts in bodies for one in parts.statements) if not self.is_known(one)]
+        size = max(1, min(AT_ONCE, -(-len(new) // self.workers)))
+        batches = [new[k:k + size] for k in range(0, len(new), size)]
+        in_time = in_parallel(self._probed, batches) if self.workers > 1 else map(self._probed, batches)
+        if not all(in_time):
+            raise TimeOver
         self.asked.update(one for parts in bodies for one in parts.statements)
         return [self.guess(parts) for parts in bodies]
 
@@ -150,15 +151,6 @@ class Measured:
             if costs is None or all(str(n) in costs for n in self.widths):
                 self.kept[one] = costs and {n: Cost(*costs[str(n)]) for n in self.widths}
         return one in self.kept
-
-    def _measure(self, statements: typing.Iterable[Alone]) -> None:
-        """Measures what is not known yet, on all processors."""
-        new = [one for one in dict.fromkeys(statements) if not self.is_known(one)]
-        size = max(1, min(AT_ONCE, -(-len(new) // self.workers)))
-        batches = [new[k:k + size] for k in range(0, len(new), size)]
-        in_time = in_parallel(self._probed, batches) if self.workers > 1 else map(self._probed, batches)
-        if not all(in_time):
-            raise TimeOver
 
     def _probed(self, statements: typing.Sequence[Alone]) -> bool:
         """Whether statements could be measured in the time."""

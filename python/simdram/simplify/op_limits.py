@@ -29,8 +29,8 @@ def fits(body: Body) -> bool:
     return len(body) <= STATEMENTS and all(isinstance(one, WordStatement) or block_fits(one) for one in body)
 
 
-def needed_in(block: Block, wanted: typing.Container[str]) -> set[str]:
-    """Which of a block's own names the wanted ones need."""
+def live_block(block: Block, wanted: set[str]) -> Block | None:
+    """A block without what nothing reads; the names that it reads are wanted from then on."""
     lets, states, nexts = dict(block.lets), dict(block.states), dict(block.assigns)
     todo, needed = [name for name in [*states, *nexts] if name in wanted], set()
     while todo:
@@ -39,12 +39,6 @@ def needed_in(block: Block, wanted: typing.Container[str]) -> set[str]:
             needed.add(name)
             todo += [below for part in (nexts, lets) if name in part for below in part[name].names()
                      if below in lets or below in states]
-    return needed
-
-
-def live_block(block: Block, wanted: set[str]) -> Block | None:
-    """A block without what nothing reads; the names that it reads are wanted from then on."""
-    needed = needed_in(block, wanted)
     if not needed:
         return None
     states = tuple(one for one in block.states if one[0] in needed)

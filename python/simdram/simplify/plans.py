@@ -94,19 +94,16 @@ class Needs:
         self.seen: set[int] = set()
         if item.kind == OPERATION:
             for arg in self.graph.wholes[item.number].args:
-                self._argument(arg)
+                node = self.graph.node(arg)
+                if node.kind == WHOLE and not arg & 1:
+                    self.found.add((Item(OPERATION, node.ident), True))
+                elif self.items.needs_row(arg, False):
+                    self.found.add((self.of.row_of.get(arg >> 1, Item(ROW, arg)), True))
         else:
             roots = [self.items.rule(one) for one in self.items.states_in(item.number)] if item.kind == STATES else [item.number]
             self.root = item.number >> 1 if item.kind == ROW else None
             for lit in roots:
                 self._go(lit)
-
-    def _argument(self, arg: int) -> None:
-        node = self.graph.node(arg)
-        if node.kind == WHOLE and not arg & 1:
-            self.found.add((Item(OPERATION, node.ident), True))
-        elif self.items.needs_row(arg, False):
-            self.found.add((self.of.row_of.get(arg >> 1, Item(ROW, arg)), True))
 
     def _go(self, lit: int) -> None:
         number, node = lit >> 1, self.graph.node(lit)
@@ -119,19 +116,13 @@ class Needs:
         elif not node.is_leaf:
             for arg in node.args:
                 self._go(arg)
-        elif node.kind == STATE and not own:
-            self._state(self.items.component[node.ident])
-        elif node.kind == LAST:
-            self.found.add((Item(STATES, self.items.component[node.ident]), True))
+        elif node.kind == STATE and not own and self.items.component[node.ident] in self.of.plan.again:
+            for state in self.items.states_in(self.items.component[node.ident]):
+                self._go(self.items.rule(state))
+        elif node.kind == LAST or node.kind == STATE and not own:
+            self.found.add((Item(STATES, self.items.component[node.ident]), node.kind == LAST))
         elif node.kind == WHOLE:
             self.found.add((Item(OPERATION, node.ident), True))
-
-    def _state(self, component: int) -> None:
-        if component in self.of.plan.again:
-            for state in self.items.states_in(component):
-                self._go(self.items.rule(state))
-        else:
-            self.found.add((Item(STATES, component), False))
 
 
 class Demand:

@@ -101,19 +101,15 @@ class Search:
         while left:
             left = [one._replace(guess=self.guess(one.parts)) for one in left]
             left = [one for one in left if one.guess <= best.score[0]]
-            some, left = self._some(left)
+            left, new, count = sorted(left, key=lambda one: one.guess), set(), 0
+            while count < len(left) and len(new) < AT_ONCE:
+                new |= self.measured.unknown(left[count].parts)
+                count += 1
+            some, left = left[:count], left[count:]
             found = min(self._measured(some), key=lambda one: one.score, default=best)
             if found.score < best.score:
                 return found
         return best
-
-    def _some(self, left: list[Candidate]) -> tuple[list[Candidate], list[Candidate]]:
-        """The first candidates with a few new statements, and the others."""
-        left, new, count = sorted(left, key=lambda one: one.guess), set(), 0
-        while count < len(left) and len(new) < AT_ONCE:
-            new |= self.measured.unknown(left[count].parts)
-            count += 1
-        return left[:count], left[count:]
 
     def _measured(self, some: typing.Sequence[Candidate]) -> list[Found]:
         """Candidates, measured as many at once as there are workers; the best so far is known after each."""

@@ -15,7 +15,6 @@ With --width N PROG the texts are those of the least cost at N, and PROG is writ
 for each op has the commands of OPS and of PROG at N. This search takes some five processor seconds for 100 commands, beside --seconds.
 """
 
-import argparse
 import os
 import sys
 
@@ -25,7 +24,7 @@ from ..launcher import run_program
 from ..launcher.faults import Fault
 from ..launcher.overwrite import check, write
 from ..launcher.settings import Settings
-from ..launcher.tool_parser import tool_parser
+from ..launcher.tool_parser import Asked, flag, option, tool
 from ..launcher.widths import widths_of
 from ..launcher.words import wrong_number
 from ..optimise.two_starts import fewest
@@ -37,18 +36,7 @@ FAULTY = 1
 WIDTHS = "4,8,16,32"
 
 
-def parser() -> argparse.ArgumentParser:
-    made = tool_parser("simplify", __name__, "OPS", "[NEW]")
-    made.add_argument("--widths", metavar="N,N,..", help="where no op is dearer, and is compared; 4,8,16,32 unless given, or N of --width")
-    made.add_argument("--width", nargs=2, metavar=("N", "PROG"), help="also write a program of the fewest commands at the width N")
-    made.add_argument("--seconds", type=float, default=SECONDS, metavar="S",
-                      help="in how many processor seconds all ops are done, this tool's and its calls' together; 40 unless given")
-    made.add_argument("--rows", action="store_true", help="take no text of more scratch rows")
-    made.add_argument("--unvalidated", action="store_true", help="take texts that are not known to be equal, with a comment")
-    return made
-
-
-def check_words(asked: argparse.Namespace, settings: Settings) -> None:
+def check_words(asked: Asked, settings: Settings) -> None:
     """Refuses times that are none, and a NEW that is OPS or another kind of file."""
     if not 0 < asked.seconds <= 86400:
         raise Fault("--seconds is above 0, and at most 86400")
@@ -65,7 +53,7 @@ def check_words(asked: argparse.Namespace, settings: Settings) -> None:
         check(asked.width[1], "program", settings)
 
 
-def write_program(program: str, asked: argparse.Namespace, written: bytes, simpler: bytes, settings: Settings) -> None:
+def write_program(program: str, asked: Asked, written: bytes, simpler: bytes, settings: Settings) -> None:
     """Writes the program of the fewest commands at one width, and says what it takes."""
     n, prog = int(asked.width[0]), asked.width[1]
     found = fewest(program, written, simpler, n)
@@ -88,8 +76,14 @@ def show_wrong(one: Outcome, before: bytes) -> None:
     print(f"as it was:\n{before.decode('utf-8', 'replace')}\nas it was simplified:\n{one.simpler.text}", end="", file=sys.stderr)
 
 
-def main(words: list[str], settings: Settings) -> int:
-    asked = parser().parse_intermixed_args(words)
+@tool("OPS", "[NEW]",
+      option("--widths", "N,N,..", "where no op is dearer, and is compared; 4,8,16,32 unless given, or N of --width"),
+      option("--width", ("N", "PROG"), "also write a program of the fewest commands at the width N", nargs=2),
+      option("--seconds", "S", "in how many processor seconds all ops are done, this tool's and its calls' together; 40 unless given",
+             type=float, default=SECONDS),
+      flag("--rows", "take no text of more scratch rows"),
+      flag("--unvalidated", "take texts that are not known to be equal, with a comment"))
+def main(asked: Asked, settings: Settings) -> int:
     check_words(asked, settings)
     widths = asked.widths or (asked.width[0] if asked.width else WIDTHS)
     options = Options(tuple(widths_of(widths)), asked.seconds, asked.rows, asked.unvalidated)

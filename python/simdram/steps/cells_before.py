@@ -33,13 +33,6 @@ def named(keys: typing.Sequence[tuple[typing.Hashable, bool]], zero: typing.Hash
     return tuple(made)
 
 
-def left_by(part: Part, rows: RowNames, known: Known) -> Known:
-    """What is known of the cells after a part."""
-    board = done_by(part, rows, {cell: value_of(*one) for cell, one in zip(CELLS, known)})
-    patterns = [board.cells[cell].pattern or 0 for cell in CELLS]
-    return named([(min(pattern, pattern ^ ALL), pattern > pattern ^ ALL) for pattern in patterns], 0)
-
-
 def both(one: Known, other: Known) -> Known:
     """What is known of the cells whichever of two is so."""
     return named([((left, right, left_turned != right_turned), left_turned)
@@ -60,7 +53,9 @@ def known_at(code: Code, rows: RowNames) -> dict[int, Known]:
     def goes_on(first: int, known: Known) -> list[tuple[int, Known]]:
         past = ends[first]
         part = Part(first, tuple(code[first:past]), "", False, held=held[first])
-        left = left_by(part, rows, known)
+        board = done_by(part, rows, {cell: value_of(*one) for cell, one in zip(CELLS, known)})
+        patterns = [board.cells[cell].pattern or 0 for cell in CELLS]
+        left = named([(min(pattern, pattern ^ ALL), pattern > pattern ^ ALL) for pattern in patterns], 0)
         places = follow(code, past - 1, after(part.code, part.held))
         return [(on.get(past - 1, to) if to != past else to, left) for to in places]
 

@@ -34,21 +34,17 @@ class Column:
         self.unset: Bit = None if ones is None else 0
         self.cells: dict[str, Bit] = dict.fromkeys(CELLS, self.unset)
         self.rows: dict[Place, Bit] = {}
-        for name in ones or ():
-            self.hold(name)
+        for name in ones or ():  # cells and rows that hold 1 at the start, named as verdicts name them
+            if name in self.cells:
+                self.cells[name] = 1
+            else:
+                self.rows[place_of(name, entry, width)] = 1
         self.registers = Registers(width)
         self.path: list[int] = []
         # where each part begins, and what the registers held each time that it did: how many instructions before, and these
         self.firsts = {first: [] for first, _ in pieces(entry.code)}
         for which, number in enumerate(numbers):
             self.rows.update(((SOURCE, which, k), number >> k & 1) for k in range(width))
-
-    def hold(self, name: str) -> None:
-        """A cell or a row, named as verdicts name it, holds 1 at the start."""
-        if name in self.cells:
-            self.cells[name] = 1
-            return
-        self.rows[place_of(name, self.entry, self.width)] = 1
 
     def sensed(self, row: Row) -> Bit:
         """What an activation senses, and leaves in the cells that it opens."""

@@ -1,11 +1,9 @@
 """The operation text that is named beside a program's entry: its names, and its statements where the entry is of it."""
 
-import os
-import tempfile
 import typing
 
 from ..files.program import Entry, Program
-from ..files.store import load, store
+from ..files.store import folder_of, load
 from ..launcher import run_program
 from ..launcher.faults import Fault
 from ..launcher.settings import Settings
@@ -17,13 +15,9 @@ from .row_names import RowNames
 
 def compiled(data: bytes, settings: Settings) -> Program:
     """The program that an operation text compiles to."""
-    with tempfile.TemporaryDirectory(prefix="simdram_") as folder:
-        ops, prog = os.path.join(folder, "ops"), os.path.join(folder, "prog")
-        store(ops, data)
-        ended = run_program.run(["compile", ops, prog], settings=settings)
-        if ended.status:
-            raise Fault(f"compile ended with status {ended.status}: {ended.out.strip() or ended.err.strip()}")
-        return Program.load(prog)
+    with folder_of(ops=data) as folder:
+        run_program.run(["compile", "ops", "prog"], folder, settings).check("compile")
+        return Program.load(f"{folder}/prog")
 
 
 class OpText(typing.NamedTuple):

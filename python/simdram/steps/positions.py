@@ -66,11 +66,6 @@ def joined(found: typing.Iterable[tuple[typing.Hashable, Form]]) -> Held:
     return tuple(made)
 
 
-def begun(held: Held) -> Held:
-    """What registers hold, by names of their own for the part that begins now; what is a number, or differs from n by one, stays."""
-    return joined((form.terms if form.variables else None, form) for form in held)
-
-
 def either(one: Held, other: Held) -> Held:
     """What is known of the registers where it is the one or the other: those that differ by a number in both, still do."""
     return joined((None if left == right and not left.variables else (left.terms, right.terms, left.number - right.number), left)
@@ -131,6 +126,8 @@ def held_at(code: typing.Sequence[Instruction]) -> dict[int, Held]:
 
     def goes_on(first: int, held: Held) -> list[tuple[int, Held]]:
         found = after(code[first:ends[first]], held)
-        return [(to, begun(found)) for to in follow(code, ends[first] - 1, found)]
+        # what is a number, or differs from n by one, stays; the others have names of their own for the part that begins now
+        begun = joined((form.terms if form.variables else None, form) for form in found)
+        return [(to, begun) for to in follow(code, ends[first] - 1, found)]
 
     return fixed_point(START, goes_on, either)

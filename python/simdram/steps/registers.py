@@ -58,14 +58,11 @@ class Held:
             said.setdefault((how, self.outline.apart(at, place)), []).append(str(at))
         return [f"{how} {' and '.join(places)}{apart}" for (how, apart), places in said.items()]
 
-    def set_to(self, at: int) -> str:
-        """What an instruction sets a register to."""
-        return f"set to {STARTS[self.code[at].kind](self.code[at])} at instruction {at}"
-
     def start(self, register: int, place: int, loop: range) -> str:
         """How a register was set before a place."""
         sets, changes = self.way_back(register, place, loop)
-        said = " or ".join(self.set_to(at) if at >= 0 else "0 from the start on" for at in sorted(sets))
+        said = " or ".join(f"set to {STARTS[self.code[at].kind](self.code[at])} at instruction {at}" if at >= 0 else "0 from the start on"
+                           for at in sorted(sets))
         return " and ".join([said, *self.changes(changes, place)])
 
     def meaning(self, part: Part, register: int) -> str:

@@ -34,13 +34,8 @@ def with_cells(text: str) -> str:
 
 def iteration(one, each: dict) -> dict:
     """An iteration of a part as the page has it: a digit for each value that is shown after a command."""
-    bits = ["".join(bits[name] for name in names(step)) for step, bits in zip(one.done, each["bits"])]
+    bits = ["".join(bits[name] for name in [*step.cells, *step.rows]) for step, bits in zip(one.done, each["bits"])]
     return {"registers": each["registers"], "held": each["held"], "inside": each["inside"], "bits": bits}
-
-
-def names(step) -> list[str]:
-    """The names of what is shown after a command, in their order."""
-    return [*step.cells, *step.rows]
 
 
 def in_order(found: typing.Sequence, is_executed: bool) -> tuple[list[tuple[int, int]], bool]:

@@ -28,7 +28,6 @@ It prints a table for each part. With --html it writes one page instead that ste
 with cells coloured by what they hold; the page loads nothing.
 """
 
-import argparse
 import dataclasses
 import textwrap
 import typing
@@ -40,7 +39,7 @@ from ..files.program import Entry, Program
 from ..launcher.faults import Fault
 from ..launcher.overwrite import write
 from ..launcher.settings import Settings
-from ..launcher.tool_parser import tool_parser
+from ..launcher.tool_parser import Asked, option, tool
 from .board import Board, changing, done_by
 from .cell_values import Names, Value
 from .cells_before import before
@@ -161,26 +160,6 @@ class View:
         return Shown(part, done, lines, names.said, subscripts, start, bits, when)
 
 
-def parser() -> argparse.ArgumentParser:
-    made = tool_parser("steps", __name__, "PROG", "OP")
-    made.add_argument("--ops", metavar="OPS", help="the operation text that PROG was compiled from")
-    made.add_argument("--with", dest="numbers", metavar="A=N,B=N", help="a number for each operand: cells show their bits")
-    made.add_argument("--width", type=int, metavar="N", help="the width with --with, else the first of 8, 16, .. that holds the numbers; "
-                      "and which code of an entry is shown that has a straight line for a width")
-    made.add_argument("--from", dest="start", metavar="T3,t0", help="with --with: the cells and rows that hold 1 at the start, as a verdict "
-                      "names them, or `zeros`; the others hold 0")
-    made.add_argument("--iteration", type=int, default=1, metavar="K", help="which iteration of each part shows bits in the tables")
-    made.add_argument("--html", metavar="PAGE", help="write a page in place of the tables")
-    return made
-
-
-def ones_of(start: str | None) -> list[str] | None:
-    """The cells and rows that hold 1 at the start, where it is said."""
-    if start is None or start == "zeros":
-        return None if start is None else []
-    return [name for name in start.replace(",", " ").split() if name]
-
-
 def of_widths(entry: Entry, n: int | None) -> str:
     """At which widths an entry does what is shown, where it begins with tests of the width."""
     widths = [one.width for one in choices(entry)[0]]
@@ -189,8 +168,16 @@ def of_widths(entry: Entry, n: int | None) -> str:
     return f"at the width {n} alone" if n in widths else f"at all widths but {' and '.join(map(str, sorted(widths)))}"
 
 
-def main(words: list[str], settings: Settings) -> int:
-    asked = parser().parse_args(words)
+@tool("PROG", "OP",
+      option("--ops", "OPS", "the operation text that PROG was compiled from"),
+      option("--with", "A=N,B=N", "a number for each operand: cells show their bits", dest="numbers"),
+      option("--width", "N", "the width with --with, else the first of 8, 16, .. that holds the numbers; "
+             "and which code of an entry is shown that has a straight line for a width", type=int),
+      option("--from", "T3,t0", "with --with: the cells and rows that hold 1 at the start, as a verdict "
+             "names them, or `zeros`; the others hold 0", dest="start"),
+      option("--iteration", "K", "which iteration of each part shows bits in the tables", type=int, default=1),
+      option("--html", "PAGE", "write a page in place of the tables"))
+def main(asked: Asked, settings: Settings) -> None:
     try:
         entry = Program.load(asked.prog).find(asked.op)
     except KeyError as fault:
@@ -202,16 +189,16 @@ def main(words: list[str], settings: Settings) -> int:
     text = of_entries(asked.prog, [entry], asked.ops, settings)[entry.name]
     if asked.start is not None and not asked.numbers:
         raise Fault("--from goes with --with")
-    run = execution(entry, text, asked.numbers, asked.width, ones_of(asked.start)) if asked.numbers else None
+    start = None if asked.start is None else asked.start.replace(",", " ").split()
+    run = execution(entry, text, asked.numbers, asked.width, [] if start == ["zeros"] else start) if asked.numbers else None
     width = run.width if run else asked.width
     shown = branch(entry, width)
     view = View(shown, text, run, asked.iteration, text_lines(asked.prog, entry) if shown is entry else None)
     said = [one for one in (text.other if text else "", run.said if run else "", of_widths(entry, width)) if one]
     if asked.html:
         write(asked.html, page(asked.op, view.shown, said, run is not None).encode(), "page", settings)
-        return 0
+        return
     for one in said:
         print(one)
     for one in view.shown:
         print("\n".join(one.lines))
-    return 0

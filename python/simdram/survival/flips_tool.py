@@ -10,11 +10,11 @@ import math
 import random
 import typing
 
+from ..files.image import HEAD_MAX, Table
 from ..files.store import load
-from ..files.table import HEAD_MAX, Table
 from ..launcher.faults import Fault
 from ..launcher.settings import Settings
-from ..launcher.tool_parser import tool_parser
+from ..launcher.tool_parser import Asked, option, tool
 from ..rules.script_rules import loaded_script
 
 # the greatest text of flips that a guarded run reads
@@ -42,11 +42,6 @@ class Cells:
     columns: int
     instructions: int
 
-    @classmethod
-    def of(cls, table: Table, instructions: int) -> "Cells":
-        """Those of an image with this head."""
-        return cls(table.banks, table.rows, 64 * table.words, instructions)
-
     @property
     def chances(self) -> int:
         """How often a cell may flip, over all cells and instructions."""
@@ -65,15 +60,10 @@ def drawn(cells: Cells, rate: float, seed: int) -> typing.Iterator[Flip]:
     dice = random.Random(seed)
     at = -1
     while rate > 0:
-        at += 1 + gap(dice.random(), rate)
+        at += 1 + (0 if rate == 1 else math.floor(math.log1p(-dice.random()) / math.log1p(-rate)))
         if at >= cells.chances:
             return
         yield cells.flip(at)
-
-
-def gap(draw: float, rate: float) -> int:
-    """How many chances go by before the next flip, by a number drawn from 0 to 1."""
-    return 0 if rate == 1 else math.floor(math.log1p(-draw) / math.log1p(-rate))
 
 
 def text_of(flips: typing.Iterable[Flip]) -> str:
@@ -101,7 +91,8 @@ def rate_of(text: str) -> float:
 
 def cells_of(script: str, image: str) -> Cells:
     """The cells of an image before the instructions of a script."""
-    return Cells.of(Table.read(load(image, "image")[:HEAD_MAX], image), len(loaded_script(script)[0]))
+    table = Table.read(load(image, "image")[:HEAD_MAX], image)
+    return Cells(table.banks, table.rows, table.columns, len(loaded_script(script)[0]))
 
 
 def seed_of(text: str) -> int:
@@ -111,19 +102,12 @@ def seed_of(text: str) -> int:
     return int(text)
 
 
-def parser() -> argparse.ArgumentParser:
-    made = tool_parser("flips", __name__)
-    made.add_argument("--rate", required=True, metavar="R", help="the probability, 0 to 1")
-    made.add_argument("--seed", type=seed_of, default=0, metavar="S", help="another seed, other flips; 0 unless it is given")
-    made.add_argument("--script", required=True, metavar="SCRIPT", help="the script that will be guarded")
-    made.add_argument("image", metavar="IMAGE", help="the image that it will be executed on")
-    return made
-
-
-def main(words: list[str], _settings: Settings) -> int:
-    asked = parser().parse_args(words)
+@tool(option("--rate", "R", "the probability, 0 to 1", required=True),
+      option("--seed", "S", "another seed, other flips; 0 unless it is given", type=seed_of, default=0),
+      option("--script", "SCRIPT", "the script that will be guarded", required=True),
+      option("image", "IMAGE", "the image that it will be executed on"))
+def main(asked: Asked, _settings: Settings) -> None:
     cells, rate = cells_of(asked.script, asked.image), rate_of(asked.rate)
     head = f"# each of {cells.chances:,} chances (data cells times instructions) at the rate {rate:g}, seed {asked.seed}\n"
     body = text_of(drawn(cells, rate, asked.seed))
     print((head if len(head) + len(body) <= LARGEST else "") + body, end="")
-    return 0

@@ -7,23 +7,20 @@ interval (Wilson's) of the probability behind it, the mean, least and most flips
 Flips hit all data cells of IMAGE, also those that no object stands in.
 """
 
-import argparse
 import dataclasses
 import math
-import os
-import tempfile
 import typing
 
 from ..costs.picture import COLOURS, Line, Picture, check_out, write
 from ..costs.report import PRINTED
 from ..costs.table_formats import FORMATS, Rows
 from ..files.image import Image
-from ..files.store import load, store
+from ..files.store import folder_of, load
 from ..launcher import run_program
 from ..launcher.faults import Fault
 from ..launcher.parallel import in_parallel
 from ..launcher.settings import Settings
-from ..launcher.tool_parser import tool_parser
+from ..launcher.tool_parser import Asked, option, tool
 from .flips_tool import Cells, cells_of, drawn, rate_of, seed_of, text_of
 
 HEAD = ("rate", "runs", "right", "share", "low", "high", "flips_mean", "flips_least", "flips_most", "first_wrong_seed")
@@ -59,23 +56,20 @@ class Job:
 
     def answers(self, flips: str) -> Answers:
         """The answers under a text of flips."""
-        with tempfile.TemporaryDirectory(prefix="simdram_") as folder:
-            path, prog, out = (os.path.join(folder, name) for name in ("flips", "prog", "out"))
-            store(path, flips.encode())
+        with folder_of(flips=flips.encode()) as folder:
+            path, prog, out = (f"{folder}/{name}" for name in ("flips", "prog", "out"))
             ended = run_program.run(["guard", self.ops, prog, self.script, self.image, path, out], path=self.program)
             if ended.status:
                 said = (ended.out.splitlines() or [ended.err.strip()])[-1]
                 raise Fault(f"guard ended with status {ended.status}: {said}")
-            return Answers(tuple(filter(PRINTED.fullmatch, ended.out.splitlines())), numbers_in(Image.read(load(out), out)))
+            image = Image.read(load(out), out)
+            # the votes at the end make the three copies of an object equal, so that the first is enough
+            objects = tuple((one.name, image.cells(one.name)[0]) for one in image.objects if one.name.startswith("x"))
+            return Answers(tuple(filter(PRINTED.fullmatch, ended.out.splitlines())), objects)
 
     def run(self, rate: float, seed: int, right: Answers) -> Run:
         flips = text_of(drawn(self.cells, rate, seed))
         return Run(seed, flips.count("\n"), self.answers(flips) == right)
-
-
-def numbers_in(image: Image) -> tuple[tuple[str, bytes], ...]:
-    """The numbers of each object; the votes at the end make its three copies equal, so that the first is enough."""
-    return tuple((one.name, image.cells(one.name)[0]) for one in image.objects if one.name.startswith("x"))
 
 
 def interval(right: int, runs: int) -> tuple[float, float]:
@@ -118,19 +112,14 @@ def picture_of(rows: Rows) -> Picture:
     return Picture(lines, "flips for each cell and instruction", "runs with all answers right, in %", True)
 
 
-def parser() -> argparse.ArgumentParser:
-    made = tool_parser("survival", __name__, "OPS", "SCRIPT", "IMAGE")
-    made.add_argument("--rates", required=True, metavar="R,R,..", help="rates, 0 to 1 each, such as 1e-6,1e-5,1e-4")
-    made.add_argument("--runs", type=int, default=100, metavar="N", help="runs for each rate; 100 unless it is given")
-    made.add_argument("--seed", type=seed_of, default=0, metavar="S", help="the seed of the first run; 0 unless it is given")
-    made.add_argument("--format", choices=sorted(FORMATS), default="text", help="how the table is written")
-    made.add_argument("--csv", action="store_const", const="csv", dest="format", help="as --format csv")
-    made.add_argument("--plot", metavar="OUT", help="draw the shares over the rates, into OUT.svg or OUT.png")
-    return made
-
-
-def main(words: list[str], settings: Settings) -> int:
-    asked = parser().parse_args(words)
+@tool("OPS", "SCRIPT", "IMAGE",
+      option("--rates", "R,R,..", "rates, 0 to 1 each, such as 1e-6,1e-5,1e-4", required=True),
+      option("--runs", "N", "runs for each rate; 100 unless it is given", type=int, default=100),
+      option("--seed", "S", "the seed of the first run; 0 unless it is given", type=seed_of, default=0),
+      option("--format", help="how the table is written", choices=sorted(FORMATS), default="text"),
+      option("--csv", help="as --format csv", action="store_const", const="csv", dest="format"),
+      option("--plot", "OUT", "draw the shares over the rates, into OUT.svg or OUT.png"))
+def main(asked: Asked, settings: Settings) -> None:
     rates = list(dict.fromkeys(map(rate_of, asked.rates.split(","))))
     if not 1 <= asked.runs <= RUNS_MOST:
         raise Fault(f"--runs is 1 to {RUNS_MOST:,}")
@@ -142,4 +131,3 @@ def main(words: list[str], settings: Settings) -> int:
     if asked.plot:
         write(picture_of(rows), asked.plot, settings)
     print(FORMATS[asked.format]([list(HEAD), *rows]), end="")
-    return 0
