@@ -1,36 +1,40 @@
 """Heads that reserve only the rows of scratch that a command names; `verify` has to find each such entry right.
 
 A bit of scratch has no index, so leaving out one that is not named changes nothing at any width. A row of a word may be reached by an index
-of the word before it; so words are left out only of an entry that names no row past its own word at any width, which is tried at each.
+of the word before it; so words are left out only of an entry that names no row past its own word at any width. That is tried at each; of the
+compiler's own code, whose words are counted by its loops, at some.
 """
 
 import dataclasses
+import os
+import typing
 
+from ..assembler.at_width import choices
 from ..assembler.walks import Stuck, walk
 from ..files.program import BIT, WORD, Entry, Instruction, Program
-from ..files.store import folder_of
+from ..files.store import folder_of, store
 from ..launcher import run_program
 from ..rules.verdicts import verdicts_of
 
-WIDTHS = range(1, 129)
+WIDTHS, SOME_WIDTHS = range(1, 129), (*range(1, 17), 31, 32, 33, 128)
 # where the space of a command's first row stands in its bytes, and where that of its second
 PLACES = (1, 4)
 
 
-def stays_in_words(entry: Entry) -> bool:
-    """Whether the entry ends at every width, and each row of a word that it names there is one of the word's own."""
+def stays_in_words(entry: Entry, widths: typing.Iterable[int] = WIDTHS) -> bool:
+    """Whether the entry ends at these widths, and each row of a word that it names there is one of the word's own."""
     try:
-        return all(position < n for n in WIDTHS for command in walk(entry, n) for space, _, position in command if space == WORD)
+        return all(position < n for n in widths for command in walk(entry, n) for space, _, position in command if space == WORD)
     except Stuck:
         return False
 
 
-def with_fewer_rows(entry: Entry) -> Entry:
+def with_fewer_rows(entry: Entry, widths: typing.Iterable[int] = WIDTHS) -> Entry:
     """The entry with the bits of scratch that its commands name, and its words where these are left out rightly, numbered anew in their
     order."""
     named = {(row.space, row.which) for one in entry.code for row in one.rows}
     kept = {space: sorted(which for of, which in named if of == space) for space in (BIT, WORD)}
-    if len(kept[WORD]) < entry.words and not stays_in_words(entry):
+    if len(kept[WORD]) < entry.words and not stays_in_words(entry, widths):
         kept[WORD] = list(range(entry.words))
 
     def renamed(one: Instruction) -> Instruction:
@@ -48,12 +52,21 @@ def scratch(entry: Entry, n: int) -> int:
     return entry.bits + n * entry.words
 
 
+def is_compiled(entry: Entry, compiled: typing.Collection[Entry]) -> bool:
+    """Whether an entry is the compiler's, but for lines for some widths."""
+    return choices(entry)[1] in compiled
+
+
 def with_named_rows(path: str, ops: str, file: bytes, n: int) -> tuple[bytes, str]:
     """A program file with such heads, where `verify` finds their entries right at the width, and what is said of them."""
     old = Program.read(file).entries
-    new = list(map(with_fewer_rows, old))
-    with folder_of(prog=Program(new).file()) as folder:
-        ended = run_program.run(["verify", ops, f"{folder}/prog", n], path=path)
+    with folder_of() as folder:
+        prog = os.path.join(folder, "prog")
+        compiled = Program.load(prog).entries if run_program.run(["compile", ops, prog], path=path).status == 0 else []
+        own = [[one.width for one in choices(entry)[0]] for entry in old]
+        new = [with_fewer_rows(entry, {*SOME_WIDTHS, *lines} if is_compiled(entry, compiled) else WIDTHS) for entry, lines in zip(old, own)]
+        store(prog, Program(new).file())
+        ended = run_program.run(["verify", ops, prog, n], path=path)
     right = {verdict.name for verdict in verdicts_of(ended.out) if verdict.is_right}
     taken = [made if made.name in right else entry for entry, made in zip(old, new)]
     lines = []
