@@ -35,9 +35,14 @@ def split(text: str) -> list[Op]:
     return [Op(text[start:end]) for start, end in zip(starts, [*starts[1:], len(text)])]
 
 
+def ops(text: str) -> dict[str, Op]:
+    """The ops of a text, by name and in its order; a text that the program refuses is raised with its line and kind."""
+    return {one.name: one for one in split(canonical(text))}
+
+
 def op(text: str, name: str | None = None) -> Op:
     """The op of a text: the one of this name, or the only one."""
-    found = {one.name: one for one in split(canonical(text))}
+    found = ops(text)
     if name is None and len(found) == 1:
         return next(iter(found.values()))
     if name in found:
