@@ -107,12 +107,7 @@ class Measured:
 
     def of_parts(self, bodies: typing.Sequence[Parts]) -> list[Costs | None]:
         """The costs of bodies; nothing where a statement is refused."""
-        new = [one for one in dict.fromkeys(one for parts in bodies for one in parts.statements) if not self.is_known(one)]
-        size = max(1, min(AT_ONCE, -(-len(new) // self.workers)))
-        batches = [new[k:k + size] for k in range(0, len(new), size)]
-        in_time = in_parallel(self._probed, batches) if self.workers > 1 else map(self._probed, batches)
-        if not all(in_time):
-            raise TimeOver
+        self._measure([one for parts in bodies for one in parts.statements])
         self.asked.update(one for parts in bodies for one in parts.statements)
         return [self.guess(parts) for parts in bodies]
 
@@ -151,6 +146,15 @@ class Measured:
             if costs is None or all(str(n) in costs for n in self.widths):
                 self.kept[one] = costs and {n: Cost(*costs[str(n)]) for n in self.widths}
         return one in self.kept
+
+    def _measure(self, statements: typing.Iterable[Alone]) -> None:
+        """Measures what is not known yet, on all processors; a test guesses instead."""
+        new = [one for one in dict.fromkeys(statements) if not self.is_known(one)]
+        size = max(1, min(AT_ONCE, -(-len(new) // self.workers)))
+        batches = [new[k:k + size] for k in range(0, len(new), size)]
+        in_time = in_parallel(self._probed, batches) if self.workers > 1 else map(self._probed, batches)
+        if not all(in_time):
+            raise TimeOver
 
     def _probed(self, statements: typing.Sequence[Alone]) -> bool:
         """Whether statements could be measured in the time."""
