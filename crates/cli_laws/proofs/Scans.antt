@@ -32,7 +32,7 @@ use Rattle.scan_model.specs.Operations.{scan_operations, scan_text}
 use Rattle.scan_model.specs.Queries.{Query, HasParts, nodes_of}
 use Rattle.scan_model.specs.Texts.{fault_in}
 use Rattle.scan_model.proofs.Alike.{scans_answer_the_same}
-use Rattle.scan_model.proofs.Parsed.{once}
+use Rattle.scan_model.proofs.Accepted.{once}
 use Rattle.scan_model.proofs.Parts.{written_parts}
 use Rattle.cli_model.specs.World.{World}
 use Rattle.cli_model.specs.Ends.{All, At, AppendsAfter, Ended, EndsSo, IsAllDone, IsForetold, Sends}
