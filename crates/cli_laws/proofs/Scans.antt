@@ -212,7 +212,7 @@ broken_so : (P : ℕ → Type 0) (fault : Option QueryFault) → P 15
 broken_so P None fifteen = tt
 broken_so P (Some fault) fifteen = fifteen
 
-use_so : (P : ℕ → Type 0) (on : Option ChipUse) (fault : Option (ScanWhy × ℕ)) → P 9
+use_so : (P : ℕ → Type 0) (on : ChipUse) (fault : Option (ScanWhy × ℕ)) → P 9
     → OfSteps P (use_steps on fault)
 use_so P on None nine = (nine, tt)
 use_so P on (Some fault) nine = tt
@@ -282,7 +282,7 @@ counted_sent line a b c sent same =
     (subst (λ (w : World). Known (λ x y. y ≡ x ++ (line ++ [])) a.sink.sent w.sink.sent)
     (sym same) sent)
 
-tells_so : (left : ChipView → Type 0) (x : Answer) (on : Option ChipUse)
+tells_so : (left : ChipView → Type 0) (x : Answer) (on : ChipUse)
     (fault : Option (ScanWhy × ℕ))
     (way : Way (answer_plan left x)) (a b c : World) (status : ℕ)
     → status ≡ last_status (answer_plan left x) way

@@ -125,7 +125,7 @@ files_decide (Load name limit text refusal ∷ steps) end a b files (inl (mid, (
     ∙ rw none refl)) rest
 files_decide (Take ∷ steps) end a b files (inl (mid, (d, g))) e =
     decided_by (Take ∷ steps) steps end files files refl
-    (files_decide steps end mid b files g (d.files ∙ e))
+    (files_decide steps end mid b files g (ap (λ (w : World). w.files.holds) d ∙ e))
 files_decide (Store name bytes ∷ steps) end a b files (inl (mid, (d, g))) e =
     let next = known_new (λ before after. after ≡ with_file name bytes before) a.files.holds
     mid.files.holds files d.files e in
@@ -142,7 +142,7 @@ files_decide (UseFor wave ∷ steps) end a b files (inl (mid, (d, g))) e =
     (files_decide steps end mid b files g (ap (λ f. f.holds) d.files ∙ e))
 files_decide (Put bytes ∷ steps) end a b files (inl (mid, (d, g))) e =
     decided_by (Put bytes ∷ steps) steps end files files refl
-    (files_decide steps end mid b files g (ap (λ f. f.holds) d.files ∙ e))
+    (files_decide steps end mid b files g (ap (λ f. f.holds) d.0.files ∙ e))
 files_decide (Print on bytes ∷ steps) end a b files (inl (mid, (d, g))) e =
     decided_by (Print on bytes ∷ steps) steps end files files refl
-    (files_decide steps end mid b files g (ap (λ f. f.holds) d.files ∙ e))
+    (files_decide steps end mid b files g (ap (λ f. f.holds) d.0.files ∙ e))

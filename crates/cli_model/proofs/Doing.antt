@@ -35,7 +35,7 @@ wants rest w = runs_stopped (Take ∷ []) rest NoMemory w w (inr (refl, nothing_
 pub takes : (rest : Plan) (result : Result ℕ Reason) (w new : World) → Runs rest w new result
     → Runs (Then (Take ∷ []) rest) w new result
 takes rest result w new r =
-    runs_then (Take ∷ []) rest result w w new (inl (w, (nothing_read w, refl))) r
+    runs_then (Take ∷ []) rest result w w new (inl (w, (refl, refl))) r
 
 sent : (R : List ℕ → List ℕ → Type 0) (files : FolderView) (old new : SinkView)
     (chip : ChipView)
@@ -54,15 +54,15 @@ unput text rest files s t chip p n r =
 -- a line was sent, and the rest of the plan was done
 pub puts : (text : List ℕ) (rest : Plan) (result : Result ℕ Reason) (files : FolderView)
     (s t : SinkView) (chip : ChipView) (new : World)
-    → Known (λ before after. after ≡ before ++ text) s.sent t.sent → s.faults ≤ t.faults
+    → Known (λ before after. after ≡ before ++ text) s.sent t.sent → t.faults ≡ s.faults
     → Runs rest (world files t chip) new result
     → Runs (Then (Put text ∷ []) rest) (world files s chip) new result
-puts text rest result files s t chip new p n r =
+puts text rest result files s t chip new p e r =
     runs_then (Put text ∷ []) rest result (world files s chip) (world files t chip) new
     (inl (
       world files t chip,
       (
-        sent (λ before after. after ≡ before ++ text) files s t chip p n,
+        (sent (λ before after. after ≡ before ++ text) files s t chip p (omega (arith, e)), e),
         refl,
       ),
     )) r

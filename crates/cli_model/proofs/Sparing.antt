@@ -95,7 +95,7 @@ take_early but reason c = record {
   line = λ last is. is ∙ ap reason_line c;
 }
 
-open_early : {on : Option ChipUse} (but : Option (List ℕ)) (reason : Reason)
+open_early : {on : ChipUse} (but : Option (List ℕ)) (reason : Reason)
     → reason ≡ NoMemory → IsEarly but [] (Open on) reason
 open_early but reason c = record {
   wants = c;

@@ -28,7 +28,6 @@ use Rattle.sim_machine.specs.Steps.{DidAndRead}
 use Rattle.sim_machine.proofs.Stepping.{if_same}
 use Rattle.object_steps.specs.Lines.{DidReadAtMost}
 use Rattle.wave_model.specs.Schedule.{Turn}
-use Rattle.cli_model.specs.Waves.{IsDoneBy, doing}
 use Rattle.guard_model.specs.declared.Flip.{Flip}
 use Rattle.guard_model.specs.Flips.{all_flipped}
 use Rattle.guard_model.specs.Votes.{vote_count, vote_events, voted}
@@ -95,15 +94,32 @@ print_is_quiet g o turn table (Free name) is = absurd (cc)
 print_is_quiet g o turn table (Order order) is = absurd (cc)
 
 -- what stands where the chip was read for a print
-pub read_by : (g : Geometry) (o : Routines) (turn : Turn) (table : List Named)
+read_by : (g : Geometry) (o : Routines) (turn : Turn) (table : List Named)
     (instr : Instruction) (n : ℕ) (now : Banks) (a b : ChipView) → is_print instr ≡ true
     → a.banks ≡ now → DidReadAtMost n a b
-    → (b.faults ≡ a.faults) × IsDoneBy (doing now (guarded_events g o turn table instr)) b.banks
+    → (b.faults ≡ a.faults) × (b.banks ≡ after (guarded_events g o turn table instr) now)
 read_by g o turn table instr n now a b is e read = (
   read.did.faults,
   read.did.banks ∙ e
       ∙ ap (λ (es : List Event). after es now) (sym (print_is_quiet g o turn table instr is)),
 )
+
+-- what stands where its line was not put
+told_so : (m : Machine) (instr : Instruction) (now : Banks) (a b : ChipView) (prints : Bool)
+    → is_print instr ≡ prints → a.banks ≡ now
+    → (is_print instr ≡ false → DidAndRead (events_by m instr) (reads_by m instr) a b)
+    → (is_print instr ≡ true → DidReadAtMost (reads_by m instr) a b)
+    → (b.faults ≡ a.faults) × (b.banks ≡ after (events_by m instr) now)
+told_so m instr now a b false is e did read =
+    let d = did is in (d.faults, d.banks ∙ ap (after (events_by m instr)) e)
+told_so m instr now a b true is e did read = read_by (geometry_of m) (operations_by m) (turn_in m)
+    (table_in m) instr (reads_by m instr) now a b is e (read is)
+
+pub untold : (m : Machine) (instr : Instruction) (now : Banks) (a b : ChipView) → a.banks ≡ now
+    → (is_print instr ≡ false → DidAndRead (events_by m instr) (reads_by m instr) a b)
+    → (is_print instr ≡ true → DidReadAtMost (reads_by m instr) a b)
+    → (b.faults ≡ a.faults) × (b.banks ≡ after (events_by m instr) now)
+untold m instr now a b e did read = told_so m instr now a b (is_print instr) refl e did read
 
 -- a test as a number
 as_number : (b : Bool) → bool_byte b ≡ cond b 1 0

@@ -37,6 +37,11 @@ pub record NoCountFalls (old new : FolderView) : Type 0 where
 abbrev pub SameLoadFaults : FolderView → FolderView → Type 0
 SameLoadFaults old new = (name : List ℕ) → new.load_faults name ≡ old.load_faults name
 
+-- no count of faults rose
+pub record Unfailed (old new : FolderView) : Type 0 where
+  pub load_faults : SameLoadFaults old new
+  pub store_faults : new.store_faults ≡ old.store_faults
+
 -- one load fault was counted, for these names and for no others
 abbrev pub CountsFault : (List ℕ → Bool) → (List ℕ → ℕ) → (List ℕ → ℕ) → Type 0
 CountsFault counts_for old new = (name : List ℕ)

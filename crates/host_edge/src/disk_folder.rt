@@ -7,7 +7,7 @@ ghost use Rattle.host_edge.specs.Disk.{place_of, counts_together, words_of, disk
 ghost use Rattle.host_edge.specs.Views.{FolderView, Known, NoCountFalls};
 ghost use Rattle.faults.specs.Counts.{Rose, RoseBy, raised};
 ghost use Rattle.host_edge.specs.Views.{SameLoadFaults, CountsFault, HasBytes, IsLonger};
-ghost use Rattle.host_edge.specs.Views.{KeepsOthers, HasNoFaults};
+ghost use Rattle.host_edge.specs.Views.{KeepsOthers, HasNoFaults, Unfailed};
 
 use crate::answer::{Failed, LoadNo};
 use crate::disk_file::set_file;
@@ -89,6 +89,7 @@ impl Folder for DiskFolder<'_> {
         ensures counts { NoCountFalls (disk_view self.old) (disk_view self.new) }
         ensures bytes { IfOk result (λ bytes. HasBytes (disk_view self.old) name.now bytes.items) }
         ensures within { IfOk result (λ bytes. length bytes.items ≤ limit) }
+        ensures unfailed { OnOk result (Unfailed (disk_view self.old) (disk_view self.new)) }
         ensures failed { IsErrOf result LoadNo.Failed
             → Rose ((disk_view self.old).load_faults name.now)
             ((disk_view self.new).load_faults name.now) }
@@ -123,10 +124,9 @@ impl Folder for DiskFolder<'_> {
             (disk_view self.new).holds }
         ensures counts { NoCountFalls (disk_view self.old) (disk_view self.new) }
         ensures stored { OnOk result (HasBytes (disk_view self.new) name.now bytes.now) }
+        ensures unfailed { OnOk result (Unfailed (disk_view self.old) (disk_view self.new)) }
         ensures failed { OnErr result (Rose (disk_view self.old).store_faults
             (disk_view self.new).store_faults) }
-        ensures no_fault { OnOk result ((disk_view self.new).store_faults
-            ≡ (disk_view self.old).store_faults) }
         ensures no_load_fault { SameLoadFaults (disk_view self.old) (disk_view self.new) }
         ensures taken { (disk_view self.new).taken ≡ (disk_view self.old).taken }
         ensures words { words_of self.new ≡ words_of self.old }

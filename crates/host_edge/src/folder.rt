@@ -3,12 +3,13 @@
 ghost use Rattle.std.specs.Prelude.{◌≡◌, ◌+◌, ◌≤◌, length, IfOk, OnOk, OnErr, IsErrOf};
 ghost use Rattle.host_edge.specs.Views.{FolderView, Known, NoCountFalls, HasBytes};
 ghost use Rattle.faults.specs.Counts.{Rose, RoseBy};
-ghost use Rattle.host_edge.specs.Views.{IsLonger, KeepsOthers};
+ghost use Rattle.host_edge.specs.Views.{IsLonger, KeepsOthers, Unfailed};
 
 use crate::answer::{Failed, LoadNo};
 use std::alloc::Global;
 
-/// Files by name. Its faults are counted, and a fault is answered only where its count rose.
+/// Files by name. Its faults are counted: a fault is answered only where its count rose, and a call
+/// that is Ok raises none.
 pub trait Folder {
     ghost view: { Self → FolderView };
 
@@ -18,6 +19,7 @@ pub trait Folder {
         ensures counts { NoCountFalls (view self.old) (view self.new) }
         ensures bytes { IfOk result (λ bytes. HasBytes (view self.old) name.now bytes.items) }
         ensures within { IfOk result (λ bytes. length bytes.items ≤ limit) }
+        ensures unfailed { OnOk result (Unfailed (view self.old) (view self.new)) }
         ensures failed { IsErrOf result LoadNo.Failed
             → Rose ((view self.old).load_faults name.now) ((view self.new).load_faults name.now) }
         ensures too_long { IsErrOf result LoadNo.TooLong
@@ -29,6 +31,7 @@ pub trait Folder {
         ensures others { Known (KeepsOthers name.now) (view self.old).holds (view self.new).holds }
         ensures counts { NoCountFalls (view self.old) (view self.new) }
         ensures stored { OnOk result (HasBytes (view self.new) name.now bytes.now) }
+        ensures unfailed { OnOk result (Unfailed (view self.old) (view self.new)) }
         ensures failed { OnErr result (Rose (view self.old).store_faults
             (view self.new).store_faults) };
 }

@@ -10,7 +10,7 @@ ghost use Rattle.faults.specs.Plans.{is_due, next_call};
 ghost use Rattle.host_edge.specs.Views.{FolderView, Known, NoCountFalls};
 ghost use Rattle.faults.specs.Counts.{Rose, RoseBy, raised};
 ghost use Rattle.host_edge.specs.Views.{SameLoadFaults, HasNoFaults, HasBytes, IsLonger};
-ghost use Rattle.host_edge.specs.Views.{KeepsOthers, SameFiles, CountsFault};
+ghost use Rattle.host_edge.specs.Views.{KeepsOthers, SameFiles, CountsFault, Unfailed};
 
 use crate::NoMemory;
 use crate::answer::{Failed, LoadNo};
@@ -161,6 +161,7 @@ impl Folder for MemFolder {
         ensures bytes { IfOk result (λ bytes. HasBytes (folder_view self.old) name.now
             bytes.items) }
         ensures within { IfOk result (λ bytes. length bytes.items ≤ limit) }
+        ensures unfailed { OnOk result (Unfailed (folder_view self.old) (folder_view self.new)) }
         ensures failed { IsErrOf result LoadNo.Failed
             → Rose ((folder_view self.old).load_faults name.now)
             ((folder_view self.new).load_faults name.now) }
@@ -205,14 +206,13 @@ impl Folder for MemFolder {
             (folder_view self.new).holds }
         ensures counts { NoCountFalls (folder_view self.old) (folder_view self.new) }
         ensures stored { OnOk result (HasBytes (folder_view self.new) name.now bytes.now) }
+        ensures unfailed { OnOk result (Unfailed (folder_view self.old) (folder_view self.new)) }
         ensures failed { OnErr result (Rose (folder_view self.old).store_faults
             (folder_view self.new).store_faults) }
         ensures unchanged { OnErr result (Known SameFiles (folder_view self.old).holds
             (folder_view self.new).holds) }
         ensures due { IsTrue (is_due (folder_plan self.old)) → IsErr result }
         ensures plan { folder_plan self.new ≡ next_call (folder_plan self.old) }
-        ensures no_fault { OnOk result ((folder_view self.new).store_faults
-            ≡ (folder_view self.old).store_faults) }
         ensures no_load_fault { SameLoadFaults (folder_view self.old) (folder_view self.new) }
         ensures taken { (folder_view self.new).taken ≡ (folder_view self.old).taken }
     {

@@ -57,11 +57,11 @@ impl Sink for MemSink {
         ensures counts { (sink_view self.old).faults ≤ (sink_view self.new).faults }
         ensures sent { OnOk result (Known (λ old new. new
             ≡ old ++ bytes.now) (sink_view self.old).sent (sink_view self.new).sent) }
+        ensures unfailed { OnOk result ((sink_view self.new).faults ≡ (sink_view self.old).faults) }
         ensures part { OnErr result (Known (AppendsPart bytes.now) (sink_view self.old).sent
             (sink_view self.new).sent) }
         ensures failed { OnErr result (Rose (sink_view self.old).faults
             (sink_view self.new).faults) }
-        ensures done { OnOk result ((sink_view self.new).faults ≡ (sink_view self.old).faults) }
         ensures none_kept { OnErr result (sink_view self.new
             ≡ record (sink_view self.old) { faults = raised 1 (sink_view self.old).faults }) }
         ensures due { IsTrue (is_due (sink_plan self.old)) → IsErr result }

@@ -6,7 +6,7 @@ ghost use Rattle.faults.specs.Counts.{Rose};
 
 use crate::answer::Failed;
 
-/// Takes bytes, in order.
+/// Takes bytes, in order. Its faults are counted as a folder's.
 pub trait Sink {
     ghost view: { Self → SinkView };
 
@@ -15,6 +15,7 @@ pub trait Sink {
         ensures counts { (view self.old).faults ≤ (view self.new).faults }
         ensures sent { OnOk result (Known (λ old new. new ≡ old ++ bytes.now) (view self.old).sent
             (view self.new).sent) }
+        ensures unfailed { OnOk result ((view self.new).faults ≡ (view self.old).faults) }
         ensures part { OnErr result (Known (AppendsPart bytes.now) (view self.old).sent
             (view self.new).sent) }
         ensures failed { OnErr result (Rose (view self.old).faults (view self.new).faults) };

@@ -36,12 +36,12 @@ impl<W: Write> Sink for StdSink<W> {
         ensures sent { OnOk result (Known (λ old new. new
             ≡ old ++ bytes.now) (std_view W.contents self.old).sent
             (std_view W.contents self.new).sent) }
+        ensures unfailed { OnOk result ((std_view W.contents self.new).faults
+            ≡ (std_view W.contents self.old).faults) }
         ensures part { OnErr result (Known (AppendsPart bytes.now)
             (std_view W.contents self.old).sent (std_view W.contents self.new).sent) }
         ensures failed { OnErr result (Rose (std_view W.contents self.old).faults
             (std_view W.contents self.new).faults) }
-        ensures done { OnOk result ((std_view W.contents self.new).faults
-            ≡ (std_view W.contents self.old).faults) }
         ensures counted { OnErr result ((std_view W.contents self.new).faults
             ≡ raised 1 (std_view W.contents self.old).faults) }
     {

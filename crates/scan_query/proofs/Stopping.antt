@@ -61,7 +61,7 @@ none_own : (g : Geometry) (o : Routines) (table : List Named) (instr : Instructi
 none_own g o table instr w e =
     none_done (refusal g o table instr) w (own_events g table instr) e
 
-refused_events : (g : Geometry) (o : Routines) (turn : Turn) (table : List Named)
+pub refused_events : (g : Geometry) (o : Routines) (turn : Turn) (table : List Named)
     (instr : Instruction) (w : Why) → refusal g o table instr ≡ Some w
     → piece_events g o turn table (piece_of instr) ≡ []
 refused_events g o turn table (Bbop op dst srcs count n) w e =

@@ -3,7 +3,7 @@ use Rattle.std.proofs.Common.{◌≡◌, ℕ, ◌≤◌, Bool, true, false, cond
 use Rattle.std.proofs.Common.{sym, ◌∙◌, ap, subst, append-nil, arith, map, get_or}
 use Rattle.std.specs.Prelude.{Err, is_none, take, drop}
 use Rattle.std.specs.List.{AllByRecursion}
-use Rattle.std.proofs.lemmas.List.{take-append-drop}
+use Rattle.transpose_unit.proofs.Stopping.{stopped_at, stopped_more}
 use Rattle.host_edge.specs.Views.{SinkView, Known, AppendsPart}
 use Rattle.faults.specs.Counts.{Rose}
 use Rattle.dram_model.specs.Chip.{Event}
@@ -86,14 +86,9 @@ jobs_below m (instr ∷ wave) k all =
 
 -- all banks but one stand where the events before the one that failed leave them
 among_within : (events : List Event) (queue : Queues) (a b : ChipView)
-    → StoppedAmong events queue a b → StoppedWithin events a.banks b.banks
-among_within events queue a b s = record {
-  done = take s.done events;
-  left = drop s.done events;
-  all = take-append-drop s.done events;
-  bank = s.bank;
-  others = s.others;
-}
+    → StoppedAmong events queue a b → StoppedWithin 0 events a.banks b.banks
+among_within events queue a b s =
+    stopped_at events s.done s.bank s.command a.banks b.banks s.failed s.others
 
 module _ (old new : Machine) (number : ℕ) (instr : Instruction) (wave : List Instruction)
     (chip chip' : ChipView) (sink sink' : SinkView)
@@ -125,13 +120,14 @@ module _ (old new : Machine) (number : ℕ) (instr : Instruction) (wave : List I
         turn_in new ≡ turn_by_piece old (Wave wave)
         → Did (events_by old (Wave wave)) chip chip'
         → Known (λ x y. y ≡ x ++ lines_of old number wave) sink.sent sink'.sent
-        → Stepped old new number instr chip chip' sink sink' (get_or replies 0 d)
-    bbop_done replies d e turn did sent = record {
+        → sink'.faults ≡ sink.faults → Stepped old new number instr chip chip' sink sink' (get_or replies 0 d)
+    bbop_done replies d e turn did sent unfailed = record {
       answer = ap (λ (rs : List Reply). get_or rs 0 d) (e ∙ ap (map (reply_of old)) is);
       machine = same ∙ goes_to old (record old { turn = turn_in new }) _ _ refl
           (keeps_table old instr bbop) (turn ∙ ap (turn_by_piece old) same_piece);
       did = did_alone did;
       sent = subst (λ text. Known (λ x y. y ≡ x ++ text) sink.sent sink'.sent) one_line sent;
+      unfailed = unfailed;
     }
 
     pub bbop_failed : (fault : StepFault)
@@ -153,7 +149,7 @@ module _ (old new : Machine) (number : ℕ) (instr : Instruction) (wave : List I
           (subst (AllByRecursion (λ i. banks_by old i ≤ banks_by old instr)) (sym is)
           (omega arith, tt)));
       stopped = λ e. stopped_alone (stopped refl);
-      left = among_within _ _ chip chip' (stopped_alone (stopped refl));
+      left = stopped_more _ _ _ _ (among_within _ _ chip chip' (stopped_alone (stopped refl)));
       unsent = λ e. unsent refl;
       part = subst (λ (s : SinkView). Known (AppendsPart (reply_line old number chip.banks instr))
           sink.sent s.sent) (sym (unsent refl)) (no_part _ sink.sent);

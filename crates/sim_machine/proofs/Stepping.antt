@@ -12,6 +12,7 @@ use Rattle.dram_model.specs.declared.dram.Counters.{Counters}
 use Rattle.dram_model.specs.Chip.{Event, all_counted}
 use Rattle.dram_model.proofs.EventLaws.{Grew-none}
 use Rattle.transpose_unit.specs.Stopped.{StoppedWithin}
+use Rattle.transpose_unit.proofs.Stopping.{stopped_more}
 use Rattle.dram_model.specs.View.{ChipView, Did, with_reads}
 use Rattle.dram_model.specs.Elements.{FailedBelow}
 use Rattle.object_alloc.specs.declared.table.Object.{Object}
@@ -36,7 +37,7 @@ use Rattle.machine_model.specs.Script.{is_bbop}
 use Rattle.machine_model.specs.Steps.{if_done, reply_by, reply_to, table_after}
 use Rattle.object_steps.specs.Objects.{events_alone}
 use Rattle.sim_machine.specs.declared.machine.Machine.{Machine}
-use Rattle.sim_machine.specs.Machine.{GoesOn, banks_by, events_by, geometry_of, is_print}
+use Rattle.sim_machine.specs.Machine.{GoesOn, banks_by, banks_read, events_by, geometry_of, is_print}
 use Rattle.sim_machine.specs.Machine.{reply_line}
 use Rattle.sim_machine.specs.Machine.{operations_by, reads_by, reply_of, moved_table, table_in}
 use Rattle.sim_machine.specs.Machine.{leaves_table, turn_by_piece, turn_in}
@@ -71,6 +72,16 @@ reads_none m (Fill place value) e = either_none _ _ refl
 reads_none m (Print place) e = absurd (cc)
 reads_none m (Free name) e = either_none _ _ refl
 reads_none m (Order o) e = refl
+
+pub none_read : (m : Machine) (instr : Instruction) → is_print instr ≡ false
+    → banks_read m instr ≡ 0
+none_read m (Init name count n) e = refl
+none_read m (Bbop op dst srcs count n) e = refl
+none_read m (Load place loaded) e = refl
+none_read m (Fill place value) e = refl
+none_read m (Print place) e = absurd (cc)
+none_read m (Free name) e = refl
+none_read m (Order o) e = refl
 
 no_reads : (c : Counters) → c ≡ with_reads 0 c
 no_reads c = let e : c.reads + 0 ≡ c.reads = add-zero c.reads in rw e refl
@@ -116,19 +127,20 @@ module _ (old new : Machine) (number : ℕ) (instr : Instruction) (chip chip' : 
         → turn_in new ≡ turn_by_piece old (Alone instr)
         → Did (events_alone (geometry_of old) (operations_by old) (table_in old) instr) chip chip'
         → Known (λ x y. y ≡ x ++ line number (Answered reply)) sink.sent sink'.sent
-        → Stepped old new number instr chip chip' sink sink' reply
-    done_alone reply e table turn did sent = record {
+        → sink'.faults ≡ sink.faults → Stepped old new number instr chip chip' sink sink' reply
+    done_alone reply e table turn did sent unfailed = record {
       answer = e;
       machine = goes_to old new _ _ goes table
           (turn ∙ ap (turn_by_piece old) (sym (alone instr bbop)));
       did = did_piece did;
       sent = subst (λ text. Known (λ x y. y ≡ x ++ text) sink.sent sink'.sent) (answered reply e)
           sent;
+      unfailed = unfailed;
     }
 
     pub failed_alone : table_in new ≡ table_in old → turn_in new ≡ turn_in old
         → FailedBelow (banks_by old instr) chip chip'
-        → StoppedWithin (events_alone (geometry_of old) (operations_by old) (table_in old) instr)
+        → StoppedWithin 0 (events_alone (geometry_of old) (operations_by old) (table_in old) instr)
         chip.banks chip'.banks → sink' ≡ sink
         → StoppedByChip old new number instr chip chip' sink sink'
     failed_alone table turn failed left same = record {
@@ -136,8 +148,8 @@ module _ (old new : Machine) (number : ℕ) (instr : Instruction) (chip chip' : 
       turn = λ e. turn;
       failed = failed;
       stopped = λ e. absurd (cc (e, bbop));
-      left = subst (λ p. StoppedWithin (events_by old p) chip.banks chip'.banks)
-          (sym (alone instr bbop)) left;
+      left = subst (λ p. StoppedWithin (banks_read old instr) (events_by old p) chip.banks
+          chip'.banks) (sym (alone instr bbop)) (stopped_more _ _ _ _ left);
       unsent = λ e. same;
       part = subst (λ (s : SinkView). Known (AppendsPart (reply_line old number chip.banks instr))
           sink.sent s.sent) (sym same) (no_part _ sink.sent);

@@ -40,11 +40,11 @@ use Rattle.guard_model.specs.Report.{guarded_report, vote_line}
 use Rattle.guard_model.specs.Triples.{first_copies, first_stranger, unplaced}
 use Rattle.guard_model.proofs.Adding.{accepted_has_names}
 use Rattle.guard_model.proofs.Whole.{guarded_table_is, guarded_text, triples_kept}
-use Rattle.guard_job.specs.Steps.{guarded_steps, line_steps}
+use Rattle.guard_job.specs.Steps.{guarded_steps}
 use Rattle.cli_model.specs.World.{World, with_file}
 use Rattle.wave_model.specs.Schedule.{Ahead, Turn}
 use Rattle.cli_model.specs.Waves.{ChipUse}
-use Rattle.cli_model.specs.Steps.{Step, Refusal}
+use Rattle.cli_model.specs.Steps.{Step, Refusal, line_steps}
 use Rattle.cli_model.specs.Stands.{files_after, sent_by}
 use Rattle.sim_machine.specs.Machine.{is_print}
 use Rattle.simdram_cli.specs.declared.words.GuardNames.{GuardNames}
@@ -71,7 +71,7 @@ use Rattle.cli_model.proofs.Files.{at_other, at_own}
 
 -- what the steps send and store
 
-line_sent : (on : Option ChipUse) (prints : Bool) (bytes : List ℕ) (rest more : List Step)
+line_sent : (on : ChipUse) (prints : Bool) (bytes : List ℕ) (rest more : List Step)
     → sent_by ((line_steps on prints bytes ++ rest) ++ more) ≡ bytes ++ sent_by (rest ++ more)
 line_sent on true bytes rest more = refl
 line_sent on false bytes rest more = refl
@@ -93,7 +93,7 @@ script_sent g o flips k turn table banks (instr ∷ script) more =
     ∙ sym (append_assoc bytes (lines (k + 1)
     (guarded_said_in_rows g o flips (k + 1) next rows script)) (sent_by more))
 
-line_files : (on : Option ChipUse) (prints : Bool) (bytes : List ℕ) (rest more : List Step)
+line_files : (on : ChipUse) (prints : Bool) (bytes : List ℕ) (rest more : List Step)
     (f : Files) → files_after ((line_steps on prints bytes ++ rest) ++ more) f
     ≡ files_after (rest ++ more) f
 line_files on true bytes rest more f = refl

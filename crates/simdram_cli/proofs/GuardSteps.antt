@@ -19,9 +19,10 @@ use Rattle.guard_model.specs.Guarded.{guarded_events, guarded_rows, guarded_said
 use Rattle.guard_model.specs.Guarded.{guarded_turn, mended}
 use Rattle.guard_model.specs.Named.{first_long_name}
 use Rattle.guard_model.specs.Triples.{first_stranger}
-use Rattle.guard_job.specs.Steps.{guarded_steps, instr_steps, line_steps}
+use Rattle.guard_job.specs.Steps.{guarded_steps, instr_steps}
+use Rattle.cli_model.specs.Steps.{line_steps}
 use Rattle.sim_machine.specs.Machine.{is_print}
-use Rattle.cli_model.specs.Waves.{ChipUse, doing}
+use Rattle.cli_model.specs.Waves.{ChipUse}
 use Rattle.cli_model.proofs.Statuses.{OfSteps, of_more}
 use Rattle.simdram_cli.specs.Flips.{flips_or_refusal}
 use Rattle.simdram_cli.specs.Flips.{in_triples, name_refusal, table_refusal}
@@ -55,7 +56,7 @@ pub flips_are : (P : ℕ → Type 0) (read : Result (List Flip) FlipsFault) → 
 flips_are P (Ok flips) eighteen = tt
 flips_are P (Err fault) eighteen = eighteen
 
-line_are : (P : ℕ → Type 0) (on : Option ChipUse) (prints : Bool) (bytes : List ℕ) → P 3 → P 9
+line_are : (P : ℕ → Type 0) (on : ChipUse) (prints : Bool) (bytes : List ℕ) → P 3 → P 9
     → OfSteps P (line_steps on prints bytes)
 line_are P on true bytes three nine = ((three, nine), tt)
 line_are P on false bytes three nine = (nine, (three, tt))
@@ -67,13 +68,12 @@ script_are P g o flips k turn table banks [] three nine = (nine, tt)
 script_are P g o flips k turn table banks (instr ∷ script) three nine =
     let now = mended g flips k table banks in
     let bytes = line k (guarded_said_by g o table now instr) in
-    let on = doing now (guarded_events g o turn table instr) in
     let after = guarded_turn g o turn table instr in
     let next = guarded_table g o table instr in
     let rows = guarded_rows g o table now instr in
     of_more P (instr_steps g o (due k flips) k turn table banks instr)
     (guarded_steps g o flips (k + 1) after next rows script)
-    (nine, line_are P on (is_print instr) bytes three nine)
+    (nine, line_are P _ (is_print instr) bytes three nine)
     (script_are P g o flips (k + 1) after next rows script three nine)
 
 -- the steps after the opening

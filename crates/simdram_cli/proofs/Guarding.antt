@@ -47,7 +47,7 @@ use Rattle.guard_model.specs.Triples.{first_stranger}
 use Rattle.guard_job.specs.Events.{run_events}
 use Rattle.guard_job.specs.Steps.{end_by, guarded_steps}
 use Rattle.cli_model.specs.World.{World, world}
-use Rattle.cli_model.specs.Waves.{ChipUse}
+use Rattle.cli_model.specs.Waves.{ChipUse, banks_after}
 use Rattle.cli_model.specs.Steps.{Step, Store, Use, Put, Refusal, Reason}
 use Rattle.cli_model.specs.Steps.{CannotRead, TooLong, Refused, NoMemory, CannotWrite, PutFailed}
 use Rattle.cli_model.specs.Steps.{ChipFailed, End, Done, Stopped, Goes, LoadFails, Stored, Unstored}
@@ -80,7 +80,7 @@ use Rattle.simdram_cli.proofs.Joins.{loaded_text, no_chip}
 use Rattle.simdram_cli.proofs.Joins.{no_sink}
 use Rattle.simdram_cli.proofs.Running.{not_true, other_way}
 use Rattle.simdram_cli.proofs.Scripts.{lines_long}
-use Rattle.simdram_cli.proofs.Stores.{sent, used}
+use Rattle.simdram_cli.proofs.Stores.{put, sent, used}
 use Rattle.simdram_cli.proofs.Tallies.{both}
 
 -- SCRIPT
@@ -278,28 +278,33 @@ module _ (job : GuardJob) (shape : Geometry) (table : List Named) (now : ChipVie
 
   -- the steps at the end are those of the job
   pub last_are : (name : List ℕ) (end : End) (a b : World)
-      → Goes (reading now.banks ∷ Store name (image_bytes shape table (rows_in_banks now.banks))
+      → Goes (reading shape now.banks ∷ Store name (image_bytes shape table (rows_in_banks now.banks))
       ∷ Put (vote_line votes (length job.flips))
       ∷ Put (total_line (with_reads (shape.banks * shape.rows) now.counters) refused)
       ∷ []) end a b
       → Goes (last_steps name job) end a b
   last_are name end a b g =
       subst (λ (steps : List Step). Goes steps end a b)
-      (ap (λ (bytes : List ℕ). reading now.banks ∷ Store name bytes
+      (ap (λ (s : Geometry). reading s now.banks ∷ Store name
+      (image_bytes shape table (rows_in_banks now.banks))
+      ∷ Put (vote_line votes (length job.flips))
+      ∷ Put (total_line (with_reads (shape.banks * shape.rows) now.counters) refused)
+      ∷ []) w.shape_is
+      ∙ ap (λ (bytes : List ℕ). reading job.image.geometry now.banks ∷ Store name bytes
       ∷ Put (vote_line votes (length job.flips))
       ∷ Put (total_line (with_reads (shape.banks * shape.rows) now.counters) refused)
       ∷ []) own_image
-      ∙ ap (λ (n : ℕ). reading now.banks ∷ Store name (image_at_last job)
+      ∙ ap (λ (n : ℕ). reading job.image.geometry now.banks ∷ Store name (image_at_last job)
       ∷ Put (vote_line n (length job.flips))
       ∷ Put (total_line (with_reads (shape.banks * shape.rows) now.counters) refused)
       ∷ []) w.votes_is
-      ∙ ap (λ (k : Counters). reading now.banks ∷ Store name (image_at_last job)
+      ∙ ap (λ (k : Counters). reading job.image.geometry now.banks ∷ Store name (image_at_last job)
       ∷ Put (vote_line (votes_of job) (length job.flips)) ∷ Put (total_line k refused) ∷ [])
       own_tally
-      ∙ ap (λ (n : ℕ). reading now.banks ∷ Store name (image_at_last job)
+      ∙ ap (λ (n : ℕ). reading job.image.geometry now.banks ∷ Store name (image_at_last job)
       ∷ Put (vote_line (votes_of job) (length job.flips)) ∷ Put (total_line (tally_of job) n) ∷ [])
       w.refused_is
-      ∙ ap (λ (b : Banks). reading b ∷ Store name (image_at_last job)
+      ∙ ap (λ (b : Banks). reading job.image.geometry b ∷ Store name (image_at_last job)
       ∷ Put (vote_line (votes_of job) (length job.flips))
       ∷ Put (total_line (tally_of job) (refused_of job)) ∷ []) w.banks) g
 
@@ -363,45 +368,45 @@ worked_on name job end a b c d g h k =
 -- the end: the image is stored, and two lines are sent
 
 pub puts_half : (first second : List ℕ) (files : FolderView) (s t u : SinkView) (chip : ChipView)
-    → Known (λ before after. after ≡ before ++ first) s.sent t.sent → s.faults ≤ t.faults
+    → Known (λ before after. after ≡ before ++ first) s.sent t.sent → t.faults ≡ s.faults
     → Known (AppendsPart second) t.sent u.sent → t.faults ≤ u.faults → Rose t.faults u.faults
     → Goes (Put first ∷ Put second ∷ []) (Stopped PutFailed) (world files s chip)
     (world files u chip)
 puts_half first second files s t u chip p n q m r = inl (
   world files t chip,
   (
-    sent (λ before after. after ≡ before ++ first) files s t chip p n,
+    put first files s t chip p n,
     inr (refl, sent (AppendsPart second) files t u chip q m, r),
   ),
 )
 
 pub puts_done : (first second : List ℕ) (files : FolderView) (s t u : SinkView) (chip : ChipView)
-    → Known (λ before after. after ≡ before ++ first) s.sent t.sent → s.faults ≤ t.faults
-    → Known (λ before after. after ≡ before ++ second) t.sent u.sent → t.faults ≤ u.faults
+    → Known (λ before after. after ≡ before ++ first) s.sent t.sent → t.faults ≡ s.faults
+    → Known (λ before after. after ≡ before ++ second) t.sent u.sent → u.faults ≡ t.faults
     → Goes (Put first ∷ Put second ∷ []) Done (world files s chip) (world files u chip)
 puts_done first second files s t u chip p n q m = inl (
   world files t chip,
   (
-    sent (λ before after. after ≡ before ++ first) files s t chip p n,
+    put first files s t chip p n,
     inl (
       world files u chip,
-      (sent (λ before after. after ≡ before ++ second) files t u chip q m, refl),
+      (put second files t u chip q m, refl),
     ),
   ),
 )
 
-pub not_stored : (on : Option ChipUse) (name bytes : List ℕ) (steps : List Step) (f g : FolderView) (s : SinkView)
-    (a b : ChipView) → b.faults ≡ a.faults → Unstored name (world f s b) (world g s b)
+pub not_stored : (on : ChipUse) (name bytes : List ℕ) (steps : List Step) (f g : FolderView)
+    (s : SinkView) (a b : ChipView) → b.faults ≡ a.faults → b.banks ≡ banks_after on → Unstored name (world f s b) (world g s b)
     → Goes (Use on ∷ Store name bytes ∷ steps) (Stopped (CannotWrite name)) (world f s a) (world g s b)
-not_stored on name bytes steps f g s a b l u =
-    inl (world f s b, (used f s a b l, inr (refl, u)))
+not_stored on name bytes steps f g s a b l left u =
+    inl (world f s b, (used _ f s a b l left, inr (refl, u)))
 
-pub stored_then : (on : Option ChipUse) (name bytes : List ℕ) (steps : List Step) (end : End) (f g : FolderView)
-    (s : SinkView) (a b : ChipView) (w : World) → b.faults ≡ a.faults
-    → Stored name bytes (world f s b) (world g s b) → Goes steps end (world g s b) w
+pub stored_then : (on : ChipUse) (name bytes : List ℕ) (steps : List Step) (end : End)
+    (f g : FolderView) (s : SinkView) (a b : ChipView) (w : World) → b.faults ≡ a.faults
+    → b.banks ≡ banks_after on → Stored name bytes (world f s b) (world g s b) → Goes steps end (world g s b) w
     → Goes (Use on ∷ Store name bytes ∷ steps) end (world f s a) w
-stored_then on name bytes steps end f g s a b w l u h =
-    inl (world f s b, (used f s a b l, inl (world g s b, (u, h))))
+stored_then on name bytes steps end f g s a b w l left u h =
+    inl (world f s b, (used _ f s a b l left, inl (world g s b, (u, h))))
 
 -- FLIPS, and the job that it makes
 

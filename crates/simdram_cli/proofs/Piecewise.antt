@@ -27,7 +27,7 @@ use Rattle.machine_model.specs.Script.{is_bbop, banks_at_end, table_at_end}
 use Rattle.machine_model.specs.Pieces.{AreBbops, Piece, Wave, Alone, IsPiece, instrs_in, pieces}
 use Rattle.wave_model.specs.Schedule.{Turn}
 use Rattle.machine_model.specs.Pieces.{piece_events, turn_after, wave_size}
-use Rattle.cli_model.specs.Waves.{ChipUse, doing}
+use Rattle.cli_model.specs.Waves.{ChipUse}
 use Rattle.machine_model.specs.Report.{Said, said_by, said_in_rows, line, lines}
 use Rattle.machine_model.specs.Steps.{banks_after, table_after}
 use Rattle.machine_model.proofs.Cut.{alone_cut, wave_cut, wave_is_piece}
@@ -35,12 +35,12 @@ use Rattle.machine_model.proofs.Parts.{scripts_go_on, lines_go_on, all_parted}
 use Rattle.machine_model.proofs.Pieces.{pieces_are_script}
 use Rattle.cli_model.specs.World.{World}
 use Rattle.cli_model.specs.Steps.{End, Done}
-use Rattle.cli_model.specs.Steps.{Stopped, Reason, Goes}
+use Rattle.cli_model.specs.Steps.{Stopped, Reason, Goes, line_steps}
 use Rattle.cli_model.proofs.Going.{goes_on, stops}
 use Rattle.cli_model.specs.Stands.{sent_by}
 use Rattle.sim_machine.specs.Machine.{is_print}
 use Rattle.sim_machine.specs.Steps.{DidAndRead}
-use Rattle.simdram_cli.specs.Job.{put_lines, instr_steps, piece_steps, pieces_steps}
+use Rattle.simdram_cli.specs.Job.{put_lines, piece_steps, pieces_steps}
 use Rattle.simdram_cli.specs.Works.{next_piece}
 use Rattle.cli_model.proofs.Delivering.{sent_append}
 
@@ -234,8 +234,8 @@ sent_lines number [] = refl
 sent_lines number (said ∷ rest) =
     ap (λ w. line number said ++ w) (sent_lines (number + 1) rest)
 
-sent_instr : (on : Option ChipUse) (prints : Bool) (bytes : List ℕ)
-    → sent_by (instr_steps on prints bytes) ≡ bytes
+sent_instr : (on : ChipUse) (prints : Bool) (bytes : List ℕ)
+    → sent_by (line_steps on prints bytes) ≡ bytes
 sent_instr on true bytes = append-nil bytes
 sent_instr on false bytes = append-nil bytes
 
@@ -246,7 +246,7 @@ sent_piece g o turn table banks number (Wave wave) =
     sent_lines number (said_in_rows g o table banks wave)
 sent_piece g o turn table banks number (Alone instr) =
     let bytes = line number (said_by g o table banks instr) in
-    sent_instr (doing banks (piece_events g o turn table (Alone instr))) (is_print instr) bytes
+    sent_instr _ (is_print instr) bytes
     ∙ sym (append-nil bytes)
 
 said_count : (g : Geometry) (o : Routines) (table : List Named) (banks : Banks)

@@ -20,11 +20,11 @@ use Rattle.machine_model.specs.Report.{Said, line, lines, said_by, said_in_rows,
 use Rattle.machine_model.specs.Script.{banks_at_end, table_at_end}
 use Rattle.cli_model.specs.World.{with_file}
 use Rattle.std.specs.Prelude.{Option}
-use Rattle.cli_model.specs.Waves.{ChipUse, doing}
-use Rattle.cli_model.specs.Steps.{Store, Put}
+use Rattle.cli_model.specs.Waves.{ChipUse}
+use Rattle.cli_model.specs.Steps.{Store, Put, line_steps}
 use Rattle.cli_model.specs.Stands.{files_after, sent_by}
 use Rattle.sim_machine.specs.Machine.{is_print}
-use Rattle.simdram_cli.specs.Job.{done_status, image_by, instr_steps}
+use Rattle.simdram_cli.specs.Job.{done_status, image_by}
 use Rattle.simdram_cli.specs.Job.{piece_steps, pieces_steps, put_lines, refused_by, said_in}
 use Rattle.simdram_cli.specs.Job.{reading_by, script_steps, tally_by, work_steps}
 use Rattle.simdram_cli.specs.Works.{WorkDone}
@@ -43,8 +43,8 @@ lines_files : (number : ℕ) (said : List Said) (f : Files)
 lines_files number [] f = refl
 lines_files number (s ∷ said) f = lines_files (number + 1) said f
 
-instr_files : (on : Option ChipUse) (prints : Bool) (bytes : List ℕ) (f : Files)
-    → files_after (instr_steps on prints bytes) f ≡ f
+instr_files : (on : ChipUse) (prints : Bool) (bytes : List ℕ) (f : Files)
+    → files_after (line_steps on prints bytes) f ≡ f
 instr_files on true bytes f = refl
 instr_files on false bytes f = refl
 
@@ -54,7 +54,7 @@ piece_files : (g : Geometry) (o : Routines) (turn : Turn) (table : List Named) (
 piece_files g o turn table banks number (Wave wave) f =
     lines_files number (said_in_rows g o table banks wave) f
 piece_files g o turn table banks number (Alone instr) f =
-    instr_files (doing banks (piece_events g o turn table (Alone instr))) (is_print instr)
+    instr_files _ (is_print instr)
     (line number (said_by g o table banks instr)) f
 
 pub pieces_files : (g : Geometry) (o : Routines) (turn : Turn) (table : List Named) (banks : Banks)

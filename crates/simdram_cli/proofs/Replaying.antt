@@ -65,8 +65,7 @@ use Rattle.simdram_cli.specs.Works.{OpenedOn}
 use Rattle.simdram_cli.proofs.Completes.{IsOneOf}
 use Rattle.simdram_cli.proofs.JobPlans.{good_file}
 use Rattle.simdram_cli.proofs.Planned.{GivesOwn, IsFailing}
-use Rattle.simdram_cli.proofs.Sending.{left_by}
-use Rattle.simdram_cli.proofs.Stores.{sent, use_broke, used}
+use Rattle.simdram_cli.proofs.Stores.{put, sent, use_broke, used}
 use Rattle.simdram_cli.proofs.Tallies.{both, log_is}
 
 -- two geometries with equal fields are one
@@ -181,7 +180,7 @@ reads_still events i a b o did =
 
 -- the steps after the opening
 abbrev rest_of : Trace → Image → List Step
-rest_of t i = Use (doing (opened i) t.events) ∷ reading (replayed t.events i) ∷ []
+rest_of t i = Use (doing (opened i) t.events) ∷ reading i.geometry (replayed t.events i) ∷ []
 
 pub rows_unopened : (t : Trace) (i : Image) (reason : Reason) (a b : World)
     → Goes (opening i ∷ []) (Stopped reason) a b → Goes (replay_steps t i) (Stopped reason) a b
@@ -198,30 +197,28 @@ events_failed t i files sink before a b g l o s =
       refl,
       use_broke files sink a b l,
       s.rose,
-      left_by t.events (opened i) b.banks
-          (subst (λ (banks : Banks). StoppedWithin t.events banks b.banks) o.banks
-          (stopped_at_event t.events a b s)),
+      subst (λ (banks : Banks). StoppedWithin 0 t.events banks b.banks) o.banks
+          (stopped_at_event t.events a b s),
     ))
 
 pub reads_failed : (t : Trace) (i : Image) (files : FolderView) (sink : SinkView)
     (before a b c : ChipView)
     → Goes (opening i ∷ []) Done (world files sink before) (world files sink a)
     → b.faults ≤ c.faults → OpenedOn i a → Did t.events a b
-    → Rose b.faults c.faults → StoppedWithin [] b.banks c.banks
+    → Rose b.faults c.faults → StoppedWithin i.geometry.banks [] b.banks c.banks
     → Goes (replay_steps t i) (Stopped ChipFailed) (world files sink before) (world files sink c)
 reads_failed t i files sink before a b c g m o did r s =
     goes_on (opening i ∷ []) (rest_of t i) (Stopped ChipFailed) (world files sink before)
     (world files sink a) (world files sink c) g (inl (
       world files sink b,
       (
-        used files sink a b did.faults,
+        used _ files sink a b did.faults (did.banks ∙ ap (after t.events) o.banks),
         inr (
           refl,
           use_broke files sink b c m,
           r,
-          left_by [] (replayed t.events i) c.banks
-              (subst (λ (banks : Banks). StoppedWithin [] banks c.banks)
-              (did.banks ∙ ap (after t.events) o.banks) s),
+          subst (λ (banks : Banks). StoppedWithin i.geometry.banks [] banks c.banks)
+              (did.banks ∙ ap (after t.events) o.banks) s,
         ),
       ),
     ))
@@ -229,14 +226,18 @@ reads_failed t i files sink before a b c g m o did r s =
 pub rows_read : (t : Trace) (i : Image) (files : FolderView) (sink : SinkView)
     (before a b c : ChipView)
     → Goes (opening i ∷ []) Done (world files sink before) (world files sink a)
-    → b.faults ≡ a.faults → c.faults ≡ b.faults
+    → b.faults ≡ a.faults → b.banks ≡ replayed t.events i → c.faults ≡ b.faults
+    → c.banks ≡ b.banks
     → Goes (replay_steps t i) Done (world files sink before) (world files sink c)
-rows_read t i files sink before a b c g l m =
+rows_read t i files sink before a b c g l left m same =
     goes_on (opening i ∷ []) (rest_of t i) Done (world files sink before) (world files sink a)
     (world files sink c) g
     (inl (
       world files sink b,
-      (used files sink a b l, inl (world files sink c, (used files sink b c m, refl))),
+      (
+        used _ files sink a b l left,
+        inl (world files sink c, (used _ files sink b c m (same ∙ left), refl)),
+      ),
     ))
 
 pub events_done : (t : Trace) (i : Image) (g : Geometry) (a b c : ChipView) → g ≡ i.geometry
@@ -282,12 +283,12 @@ not_put name bytes line f g s t k u p n r =
 
 pub all_put : (name bytes line : List ℕ) (f g : FolderView) (s t : SinkView) (k : ChipView)
     → Stored name bytes (world f s k) (world g s k)
-    → Known (λ before after. after ≡ before ++ line) s.sent t.sent → s.faults ≤ t.faults
+    → Known (λ before after. after ≡ before ++ line) s.sent t.sent → t.faults ≡ s.faults
     → Goes (Store name bytes ∷ Put line ∷ []) Done (world f s k) (world g t k)
 all_put name bytes line f g s t k u p n =
     inl (
       world g s k,
-      (u, inl (world g t k, (sent (λ before after. after ≡ before ++ line) g s t k p n, refl))),
+      (u, inl (world g t k, (put line g s t k p n, refl))),
     )
 
 -- the events on an image

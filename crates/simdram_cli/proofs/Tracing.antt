@@ -41,10 +41,10 @@ use Rattle.trace_job.specs.Below.{BeginOnChip, IsLate}
 use Rattle.trace_job.specs.Telling.{Saw, Spelled, all_fit}
 use Rattle.trace_job.proofs.Going.{steps_are_below}
 use Rattle.cli_model.specs.World.{World, world}
-use Rattle.cli_model.specs.Waves.{ChipUse, IsLeftBy, doing}
+use Rattle.cli_model.specs.Waves.{ChipUse, IsLeftBy, banks_after}
 use Rattle.cli_model.specs.Steps.{Step, Use, Store, Put, Refusal, Reason, Refused}
 use Rattle.cli_model.specs.Steps.{CannotWrite, PutFailed, ChipFailed, End, Done, Stopped}
-use Rattle.cli_model.specs.Steps.{Goes, Stored, Unstored}
+use Rattle.cli_model.specs.Steps.{Goes, Stored, Unstored, line_steps}
 use Rattle.cli_model.specs.Runs.{Runs}
 use Rattle.cli_model.proofs.Going.{goes_on, stops}
 use Rattle.cli_model.proofs.Running.{runs_answered, runs_refused, runs_stopped, runs_then}
@@ -52,7 +52,7 @@ use Rattle.simdram_cli.specs.declared.words.TraceNames.{TraceNames}
 use Rattle.simdram_cli.specs.declared.stop.Stop.{Stop}
 use Rattle.simdram_cli.specs.declared.stop.Stop.TheVariants as stop
 use Rattle.simdram_cli.specs.Stops.{reason_of, trace_full}
-use Rattle.simdram_cli.specs.Job.{done_status, image_by, instr_steps, opened_counters, piece_steps}
+use Rattle.simdram_cli.specs.Job.{done_status, image_by, opened_counters, piece_steps}
 use Rattle.simdram_cli.specs.Job.{opening, pieces_steps, put_lines, reading, reading_by}
 use Rattle.simdram_cli.specs.Job.{refused_by, script_steps, tally_by}
 use Rattle.simdram_cli.specs.Plans.{said_of}
@@ -62,29 +62,32 @@ use Rattle.simdram_cli.specs.Tracing.{fits, full_plan, image_on, reading_on, rea
 use Rattle.simdram_cli.specs.Tracing.{recorded_steps, steps_on}
 use Rattle.simdram_cli.specs.Tracing.{store_steps, total_steps, traced_plan, traced_steps}
 use Rattle.simdram_cli.specs.Tracing.{unless_fits, unlogged}
-use Rattle.simdram_cli.proofs.Progress.{Holds, holds_of}
-use Rattle.simdram_cli.proofs.Stores.{nothing_read, sent, use_broke, used}
+use Rattle.simdram_cli.proofs.Performing.{Started, first_are, first_steps, left_by, own_events}
+use Rattle.simdram_cli.proofs.Performing.{own_table, reads_twice, total_is}
+use Rattle.simdram_cli.proofs.Progress.{holds_of}
+use Rattle.simdram_cli.proofs.Stores.{put, sent, use_broke, used}
 use Rattle.simdram_cli.proofs.Tallies.{tally_is}
 
 -- a script is done, and the image after it stored
 
-pub image_failed : (on : Option ChipUse) (name bytes : List ℕ) (f : FolderView) (s : SinkView)
+pub image_failed : (on : ChipUse) (name bytes : List ℕ) (f : FolderView) (s : SinkView)
     (a b : ChipView) → a.faults ≤ b.faults → Rose a.faults b.faults → IsLeftBy on b.banks
     → Goes (Use on ∷ Store name bytes ∷ []) (Stopped ChipFailed) (world f s a) (world f s b)
 image_failed on name bytes f s a b l r left = inr (refl, use_broke f s a b l, r, left)
 
-pub image_unstored : (on : Option ChipUse) (name bytes : List ℕ) (f g : FolderView)
-    (s : SinkView) (a b : ChipView) → b.faults ≡ a.faults
+pub image_unstored : (on : ChipUse) (name bytes : List ℕ) (f g : FolderView)
+    (s : SinkView) (a b : ChipView) → b.faults ≡ a.faults → b.banks ≡ banks_after on
     → Unstored name (world f s b) (world g s b)
     → Goes (Use on ∷ Store name bytes ∷ []) (Stopped (CannotWrite name)) (world f s a)
     (world g s b)
-image_unstored on name bytes f g s a b l u = inl (world f s b, (used f s a b l, inr (refl, u)))
+image_unstored on name bytes f g s a b l left u =
+    inl (world f s b, (used _ f s a b l left, inr (refl, u)))
 
-pub image_stored : (on : Option ChipUse) (name bytes : List ℕ) (f g : FolderView) (s : SinkView)
-    (a b : ChipView) → b.faults ≡ a.faults → Stored name bytes (world f s b) (world g s b)
+pub image_stored : (on : ChipUse) (name bytes : List ℕ) (f g : FolderView) (s : SinkView)
+    (a b : ChipView) → b.faults ≡ a.faults → b.banks ≡ banks_after on → Stored name bytes (world f s b) (world g s b)
     → Goes (Use on ∷ Store name bytes ∷ []) Done (world f s a) (world g s b)
-image_stored on name bytes f g s a b l t =
-    inl (world f s b, (used f s a b l, inl (world g s b, (t, refl))))
+image_stored on name bytes f g s a b l left t =
+    inl (world f s b, (used _ f s a b l left, inl (world g s b, (t, refl))))
 
 pub work_stopped : (m : Machine) (banks : Banks) (script : List Instruction) (name : List ℕ)
     (reason : Reason) (a b : World) → Goes (steps_on m banks script) (Stopped reason) a b
@@ -111,10 +114,6 @@ image_is_on m n script a b e t s =
     ∙ ap (λ (x : List Named). image_bytes (geometry_of m) x (rows_in_banks b.banks)) t
     ∙ ap (λ (x : Banks). image_bytes (geometry_of m) (table_at_end (geometry_of m)
     (routines_in (program_of m)) (table_in m) script) (rows_in_banks x)) s
-
-reads_twice : (m n : ℕ) (k : Counters) → with_reads n (with_reads m k) ≡ with_reads (m + n) k
-reads_twice m n k = ap (λ (r : ℕ). let c : Counters = record k { reads = r } in c)
-    (add_assoc k.reads m n)
 
 -- rows are read after what was done
 pub did_read_more : (events : List Event) (m n : ℕ) (a b c : ChipView) → DidAndRead events m a b
@@ -150,8 +149,8 @@ lines_late : (number : ℕ) (said : List Said) → AllByRecursion IsLate (put_li
 lines_late number [] = tt
 lines_late number (s ∷ said) = (tt, lines_late (number + 1) said)
 
-instr_late : (on : Option ChipUse) (prints : Bool) (bytes : List ℕ)
-    → AllByRecursion IsLate (instr_steps on prints bytes)
+instr_late : (on : ChipUse) (prints : Bool) (bytes : List ℕ)
+    → AllByRecursion IsLate (line_steps on prints bytes)
 instr_late on true bytes = (tt, tt)
 instr_late on false bytes = (tt, (tt, tt))
 
@@ -161,7 +160,7 @@ piece_late : (g : Geometry) (o : Routines) (turn : Turn) (table : List Named) (b
 piece_late g o turn table banks number (Wave wave) =
     (tt, lines_late number (said_in_rows g o table banks wave))
 piece_late g o turn table banks number (Alone instr) =
-    instr_late (doing banks (piece_events g o turn table (Alone instr))) (is_print instr)
+    instr_late _ (is_print instr)
     (line number (said_by g o table banks instr))
 
 pub pieces_late : (g : Geometry) (o : Routines) (turn : Turn) (table : List Named) (banks : Banks)
@@ -186,8 +185,8 @@ all_late names program script i =
     (pieces_late i.geometry (routines_in program) Ahead i.table (opened i) 1 (pieces script))
     (tt, (tt, store_late (fits program script i) names.trace.now program script i))
 
-instr_begins : (on : Option ChipUse) (prints : Bool) (bytes : List ℕ) (rest : List Step)
-    → BeginOnChip (instr_steps on prints bytes ++ rest)
+instr_begins : (on : ChipUse) (prints : Bool) (bytes : List ℕ) (rest : List Step)
+    → BeginOnChip (line_steps on prints bytes ++ rest)
 instr_begins on true bytes rest = refl
 instr_begins on false bytes rest = refl
 
@@ -196,11 +195,11 @@ piece_begins : (g : Geometry) (o : Routines) (turn : Turn) (table : List Named) 
     → BeginOnChip (piece_steps g o turn table banks number piece ++ rest)
 piece_begins g o turn table banks number (Wave wave) rest = refl
 piece_begins g o turn table banks number (Alone instr) rest =
-    instr_begins (doing banks (piece_events g o turn table (Alone instr))) (is_print instr)
+    instr_begins _ (is_print instr)
     (line number (said_by g o table banks instr)) rest
 
 -- the first of them uses the chip: that of a script, or without one the reading of the image
-pieces_begin : (on : Option ChipUse) (g : Geometry) (o : Routines) (turn : Turn) (table : List Named) (banks : Banks)
+pieces_begin : (on : ChipUse) (g : Geometry) (o : Routines) (turn : Turn) (table : List Named) (banks : Banks)
     (number : ℕ) (pieces : List Piece) (rest : List Step)
     → BeginOnChip (pieces_steps g o turn table banks number pieces ++ (Use on ∷ rest))
 pieces_begin on g o turn table banks number [] rest = refl
@@ -212,79 +211,8 @@ pieces_begin on g o turn table banks number (piece ∷ pieces) rest =
     (Use on ∷ rest)))
     (piece_begins g o turn table banks number piece (others ++ (Use on ∷ rest)))
 
--- a machine that was opened on an image with a program, and the view of its chip
-pub record Started (program : Program) (i : Image) (m : Machine) (start : ChipView) : Type 0 where
-  pub machine_is : m ≡ machine_on i.geometry program i.table
-  pub holds : Holds i.geometry i.table
-  pub banks : start.banks ≡ opened i
-  pub counters : start.counters ≡ opened_counters i.geometry
-  pub geometry : start.geometry ≡ i.geometry
-
-own_lines : (program : Program) (script : List Instruction) (i : Image) (m : Machine)
-    (banks : Banks) → m ≡ machine_on i.geometry program i.table → banks ≡ opened i
-    → steps_on m banks script ≡ script_steps program script i
-own_lines program script i m banks e s = rw (e, s) refl
-
-own_events : (program : Program) (script : List Instruction) (i : Image) (m : Machine)
-    (start : ChipView) → Started program i m start
-    → events_on m script ≡ script_events i.geometry (routines_in program) i.table script
-own_events program script i m start s = rw s.machine_is refl
-
-own_reads : (program : Program) (script : List Instruction) (i : Image) (m : Machine)
-    (start : ChipView) → Started program i m start
-    → reads_on m script ≡ sum_done rows_printed i.geometry (routines_in program) i.table script
-    + i.geometry.banks * i.geometry.rows
-own_reads program script i m start s = rw s.machine_is refl
-
-own_banks : (program : Program) (script : List Instruction) (i : Image) (m : Machine)
-    (start : ChipView) → Started program i m start → after (events_on m script) start.banks
-    ≡ banks_at_end i.geometry (routines_in program) i.table (opened i) script
-own_banks program script i m start s =
-    ap (λ (es : List Event). after es start.banks) (own_events program script i m start s)
-    ∙ ap (after (script_events i.geometry (routines_in program) i.table script)) s.banks
-    ∙ events_are_steps i.geometry (routines_in program) Ahead i.table script (opened i)
-    s.holds.words s.holds.fits
-
-own_image : (program : Program) (script : List Instruction) (i : Image) (m : Machine)
-    (start : ChipView) → Started program i m start
-    → image_on m start.banks script ≡ image_by program script i
-own_image program script i m start s =
-    let o = routines_in program in
-    let same : table_at_end (geometry_of m) (routines_in (program_of m)) (table_in m) script
-    ≡ table_at_end i.geometry o i.table script =
-    rw s.machine_is refl in
-    let banks = own_banks program script i m start s in
-    ap (λ (g : Geometry). image_bytes g (table_at_end (geometry_of m)
-    (routines_in (program_of m)) (table_in m) script)
-    (rows_in_banks (after (events_on m script) start.banks))) (ap geometry_of s.machine_is)
-    ∙ ap (λ (t : List Named). image_bytes i.geometry t
-    (rows_in_banks (after (events_on m script) start.banks))) same
-    ∙ ap (λ (b : Banks). image_bytes i.geometry (table_at_end i.geometry o i.table script)
-    (rows_in_banks b)) banks
-
--- the steps to the store of the image
-abbrev pub first_steps : TraceNames → Program → List Instruction → Image → List Step
-first_steps names program script i =
-    script_steps program script i ++ (reading_by program script i
-    ∷ Store names.out.now (image_by program script i) ∷ [])
-
-first_are : (names : TraceNames) (program : Program) (script : List Instruction) (i : Image)
-    (m : Machine) (start : ChipView) → Started program i m start
-    → steps_on m start.banks script
-    ++ (reading_on m start.banks script ∷ Store names.out.now (image_on m start.banks script) ∷ [])
-    ≡ first_steps names program script i
-first_are names program script i m start s =
-    ap (λ (xs : List Step). xs ++ (reading_on m start.banks script ∷ Store names.out.now (image_on m start.banks script) ∷ []))
-    (own_lines program script i m start.banks s.machine_is s.banks)
-    ∙ ap (λ (banks : Banks). script_steps program script i ++ (reading banks
-    ∷ Store names.out.now (image_on m start.banks script) ∷ []))
-    (own_banks program script i m start s)
-    ∙ ap (λ (bytes : List ℕ). script_steps program script i
-    ++ (reading_by program script i ∷ Store names.out.now bytes ∷ []))
-    (own_image program script i m start s)
-
 all_are : (names : TraceNames) (program : Program) (script : List Instruction) (i : Image)
-    → first_steps names program script i
+    → first_steps names.out.now program script i
     ++ store_steps (fits program script i) names.trace.now program script i
     ≡ recorded_steps names program script i
 all_are names program script i = append_assoc (script_steps program script i) _ _
@@ -299,7 +227,7 @@ below : (names : TraceNames) (program : Program) (script : List Instruction) (i 
 below names program script i end files sink old new from to p q r g =
     steps_are_below (recorded_steps names program script i) end (world files sink from) to old new
     (all_late names program script i)
-    (pieces_begin (doing (banks_at_end i.geometry (routines_in program) i.table (opened i) script) [])
+    (pieces_begin _
     i.geometry (routines_in program) Ahead i.table (opened i) 1 (pieces script) _) p q
     r g
 
@@ -317,45 +245,13 @@ pub first_failed : (names : TraceNames) (program : Program) (script : List Instr
 first_failed names program script i why m files sink old new from to s p q r g =
     let end = Stopped (reason_of why) in
     let first = subst (λ (xs : List Step). Goes xs end (world files sink from) to)
-    (first_are names program script i m from s) g in
+    (first_are names.out.now program script i m from s) g in
     inl (below names program script i end files sink old new from to p q r
     (subst (λ (xs : List Step). Goes xs end (world files sink from) to)
     (all_are names program script i)
-    (stops (first_steps names program script i)
+    (stops (first_steps names.out.now program script i)
     (store_steps (fits program script i) names.trace.now program script i) (reason_of why)
     (world files sink from) to first)))
-
--- what the chip shows when the script was done
-left_by : (program : Program) (script : List Instruction) (i : Image) (m : Machine)
-    (from last new : ChipView) (refused : ℕ) → Started program i m from
-    → DidAndRead (events_on m script) (reads_on m script) from last
-    → new.banks ≡ last.banks → new.counters ≡ last.counters
-    → refused ≡ count_by is_refused (replies (geometry_of m) (routines_in (program_of m))
-    (table_in m) script) → HasBegun new → new.geometry ≡ i.geometry
-    → WorkDone program script i (unlogged new) refused
-left_by program script i m from last new refused s did banks counters count begun geometry =
-    let o = routines_in program in
-    let events = script_events i.geometry o i.table script in
-    let printed = sum_done rows_printed i.geometry o i.table script in
-    let all = i.geometry.banks * i.geometry.rows in
-    let own : DidAndRead events (printed + all) from last =
-    subst (λ (es : List Event). DidAndRead es (printed + all) from last)
-    (own_events program script i m from s)
-    (subst (λ (n : ℕ). DidAndRead (events_on m script) n from last)
-    (own_reads program script i m from s) did) in
-    record {
-      begun = begun;
-      geometry = geometry;
-      banks = banks ∙ own.banks ∙ ap (after events) s.banks
-          ∙ events_are_steps i.geometry o Ahead i.table script (opened i) s.holds.words
-          s.holds.fits;
-      counters = counters ∙ own.counters
-          ∙ ap (λ k. with_reads (printed + all) (all_counted events k)) s.counters
-          ∙ sym (reads_twice printed all (all_counted events (opened_counters i.geometry)))
-          ∙ tally_is program script i s.holds;
-      log = tt;
-      refused_is = count ∙ rw s.machine_is refl;
-    }
 
 -- the recorder saw the script's events
 saw_script : (program : Program) (script : List Instruction) (i : Image) (m : Machine)
@@ -404,12 +300,6 @@ not_all : (g : Geometry) (program : Program) (script : List Instruction) (i : Im
 not_all g program script i table file all e none spelled =
     ap (λ (x : Geometry). all_fit x (script_trace program i script).events) (sym e)
     ∙ sym spelled.all_is ∙ none
-
-own_table : (program : Program) (script : List Instruction) (i : Image) (m : Machine)
-    (from : ChipView) → Started program i m from
-    → table_at_end (geometry_of m) (routines_in (program_of m)) (table_in m) script
-    ≡ table_at_end i.geometry (routines_in program) i.table script
-own_table program script i m from s = rw s.machine_is refl
 
 pub started_at : (program : Program) (i : Image) (m : Machine) (old from : ChipView)
     → OpensOn program i m old → from ≡ record old { log = Some empty_log }
@@ -469,11 +359,11 @@ module _ (names : TraceNames) (script : List Instruction) (m : Machine) (files :
       let a = world files sink from in
       let mid = world after sent (recorded last tape) in
       let first = subst (λ (xs : List Step). Goes xs Done a mid)
-      (first_are names program script i m from begun_at) d.goes in
+      (first_are names.out.now program script i m from begun_at) d.goes in
       below names program script i end files sink old last from to
       (sym (ap (λ (v : ChipView). v.faults) d.same)) q r
       (subst (λ (xs : List Step). Goes xs end a to) (all_are names program script i)
-      (goes_on (first_steps names program script i)
+      (goes_on (first_steps names.out.now program script i)
       (store_steps (fits program script i) names.trace.now program script i) end a mid to first g))
 
   -- too many events
@@ -552,7 +442,7 @@ pub not_opened : (names : TraceNames) (program : Program) (script : List Instruc
     → ScriptTraced names program script i a b (Err why)
 not_opened names program script i why a b g = inl (inl (
   a,
-  (nothing_read a, stops (opening i ∷ []) _ (reason_of why) a b g),
+  (refl, stops (opening i ∷ []) _ (reason_of why) a b g),
 ))
 
 -- from the opening on
@@ -564,7 +454,7 @@ from_open : (names : TraceNames) (program : Program) (script : List Instruction)
 from_open names program script i end a b c g h = inl (
   a,
   (
-    nothing_read a,
+    refl,
     goes_on (opening i ∷ []) (recorded_steps names program script i
         ++ total_steps (fits program script i) program script i) end a b c g h,
   ),
@@ -600,15 +490,14 @@ not_recorded names program script i why a b c g (inr w) =
       w.4,
     )
 
-total_goes : (program : Program) (script : List Instruction) (i : Image) (k : Counters)
+total_goes : (program : Program) (script : List Instruction) (i : Image) (chip : ChipView)
     (refused : ℕ) (end : End) (a b : World) → fits program script i ≡ true
-    → k ≡ tally_by program script i → refused ≡ refused_by program script i
-    → Goes (Put (total_line k refused) ∷ []) end a b
+    → WorkDone program script i chip refused
+    → Goes (Put (total_line chip.counters refused) ∷ []) end a b
     → Goes (total_steps (fits program script i) program script i) end a b
-total_goes program script i k refused end a b all e f g =
+total_goes program script i chip refused end a b all w g =
     subst (λ (x : Bool). Goes (total_steps x program script i) end a b) (sym all)
-    (subst (λ (x : Counters). Goes (Put (total_line x (refused_by program script i)) ∷ []) end a b)
-    e (subst (λ (n : ℕ). Goes (Put (total_line k n) ∷ []) end a b) f g))
+    (total_is program script i chip refused end a b w g)
 
 -- the line of the totals is not sent, or is
 pub total_unsent : (names : TraceNames) (program : Program) (script : List Instruction) (i : Image)
@@ -624,8 +513,8 @@ total_unsent names program script i refused a b files s t chip g w p n r =
     inl (from_open names program script i (Stopped PutFailed) a b end g
     (goes_on (recorded_steps names program script i)
     (total_steps (fits program script i) program script i) (Stopped PutFailed) b mid end w.1
-    (total_goes program script i chip.counters refused (Stopped PutFailed) mid end
-    (fits_so (fits program script i) w.0) w.2.counters w.2.refused_is
+    (total_goes program script i (unlogged chip) refused (Stopped PutFailed) mid end
+    (fits_so (fits program script i) w.0) w.2
     (inr (refl, sent (AppendsPart (total_line chip.counters refused)) files s t chip p n, r)))))
 
 pub total_sent : (names : TraceNames) (program : Program) (script : List Instruction) (i : Image)
@@ -633,7 +522,7 @@ pub total_sent : (names : TraceNames) (program : Program) (script : List Instruc
     → Goes (opening i ∷ []) Done a b
     → ScriptRecorded names program script i b (world files s chip) (Ok refused)
     → Known (λ before after. after ≡ before ++ total_line chip.counters refused) s.sent t.sent
-    → s.faults ≤ t.faults
+    → t.faults ≡ s.faults
     → ScriptTraced names program script i a (world files t chip) (Ok refused)
 total_sent names program script i refused a b files s t chip g w p n =
     let mid = world files s chip in
@@ -643,9 +532,9 @@ total_sent names program script i refused a b files s t chip g w p n =
       from_open names program script i Done a b end g
           (goes_on (recorded_steps names program script i)
           (total_steps (fits program script i) program script i) Done b mid end w.1
-          (total_goes program script i chip.counters refused Done mid end
-          (fits_so (fits program script i) w.0) w.2.counters w.2.refused_is
-          (inl (end, (sent (λ before after. after ≡ before ++ line) files s t chip p n, refl))))),
+          (total_goes program script i (unlogged chip) refused Done mid end
+          (fits_so (fits program script i) w.0) w.2
+          (inl (end, (put line files s t chip p n, refl))))),
       w.2,
     )
 

@@ -12,10 +12,10 @@ use Rattle.machine_model.specs.Report.{Said, line, said_by, said_in_rows, total_
 use Rattle.machine_model.specs.Script.{banks_at_end, table_at_end}
 use Rattle.sim_machine.specs.Machine.{is_print}
 use Rattle.std.specs.Prelude.{Option}
-use Rattle.cli_model.specs.Waves.{ChipUse, doing}
-use Rattle.cli_model.specs.Steps.{Store, Put}
+use Rattle.cli_model.specs.Waves.{ChipUse}
+use Rattle.cli_model.specs.Steps.{Store, Put, line_steps}
 use Rattle.cli_model.proofs.Statuses.{OfSteps, of_more}
-use Rattle.simdram_cli.specs.Job.{image_by, instr_steps, piece_steps, pieces_steps, put_lines}
+use Rattle.simdram_cli.specs.Job.{image_by, piece_steps, pieces_steps, put_lines}
 use Rattle.simdram_cli.specs.Job.{reading_by, refused_by, script_steps, tally_by, work_steps}
 
 lines_of : (P : ℕ → Type 0) (number : ℕ) (said : List Said) → P 3
@@ -23,8 +23,8 @@ lines_of : (P : ℕ → Type 0) (number : ℕ) (said : List Said) → P 3
 lines_of P number [] three = tt
 lines_of P number (s ∷ said) three = (three, lines_of P (number + 1) said three)
 
-instr_of : (P : ℕ → Type 0) (on : Option ChipUse) (prints : Bool) (bytes : List ℕ) → P 3
-    → P 9 → OfSteps P (instr_steps on prints bytes)
+instr_of : (P : ℕ → Type 0) (on : ChipUse) (prints : Bool) (bytes : List ℕ) → P 3
+    → P 9 → OfSteps P (line_steps on prints bytes)
 instr_of P on true bytes three nine = ((three, nine), tt)
 instr_of P on false bytes three nine = (nine, (three, tt))
 
@@ -34,7 +34,7 @@ piece_of : (P : ℕ → Type 0) (g : Geometry) (o : Routines) (turn : Turn) (tab
 piece_of P g o turn table banks number (Wave wave) three nine =
     (nine, lines_of P number (said_in_rows g o table banks wave) three)
 piece_of P g o turn table banks number (Alone instr) three nine =
-    instr_of P (doing banks (piece_events g o turn table (Alone instr))) (is_print instr)
+    instr_of P _ (is_print instr)
     (line number (said_by g o table banks instr)) three nine
 
 pub pieces_of : (P : ℕ → Type 0) (g : Geometry) (o : Routines) (turn : Turn) (table : List Named)

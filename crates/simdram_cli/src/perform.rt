@@ -1,25 +1,25 @@
 //! A script is done on an image, on a chip.
 
-ghost use Rattle.std.specs.Prelude.{◌≡◌, ◌+◌, ◌*◌, ◌<◌, ◌≤◌, ◌^◌, ◌∷◌, [], length, map};
-ghost use Rattle.std.specs.Prelude.{IfOk, OnOk};
+ghost use Rattle.std.specs.Prelude.{◌≡◌, ◌+◌, ◌*◌, ◌<◌, ◌≤◌, ◌^◌, ◌++◌, ◌∷◌, [], length, map};
+ghost use Rattle.std.specs.Prelude.{IfOk, OnOk, count_by};
 ghost use Rattle.std.specs.List.{AllByRecursion};
 ghost use Rattle.host_edge.specs.Views.{FolderView, SinkView};
-ghost use Rattle.dram_model.specs.View.{HasBegun, DidRead, Kept, with_reads};
+ghost use Rattle.dram_model.specs.View.{HasBegun, Kept};
 ghost use Rattle.object_alloc.specs.Exact.{found_in};
 ghost use Rattle.object_alloc.specs.Reading.{rows_size};
-ghost use Rattle.object_alloc.specs.Spelling.{image_bytes};
 ghost use Rattle.bbop_isa.specs.Forms.{view_of};
 ghost use Rattle.machine_model.specs.Agrees.{IsPlain};
-ghost use Rattle.machine_model.specs.Opened.{rows_in_banks};
-ghost use Rattle.machine_model.specs.Report.{total_line};
+ghost use Rattle.machine_model.specs.Script.{is_refused, replies, table_at_end};
 ghost use Rattle.cli_model.specs.World.{world};
-ghost use Rattle.cli_model.specs.Steps.{Goes, Store, Put};
+ghost use Rattle.cli_model.specs.Steps.{Goes, Store};
 ghost use Rattle.object_steps.specs.Objects.{LiesOn};
-ghost use Rattle.sim_machine.specs.Machine.{geometry_of, table_in};
+ghost use Rattle.sim_machine.specs.Machine.{geometry_of, operations_by, table_in};
+ghost use Rattle.sim_machine.specs.Steps.{DidAndRead};
 ghost use Rattle.sim_machine.specs.Opening.{machine_on};
 ghost use Rattle.simdram_cli.specs.Inputs.{image_found};
-ghost use Rattle.simdram_cli.specs.Job.{opening, reading, work_steps};
+ghost use Rattle.simdram_cli.specs.Job.{opening, work_steps};
 ghost use Rattle.simdram_cli.specs.Stops.{end_of};
+ghost use Rattle.simdram_cli.specs.Tracing.{events_on, image_on, reading_on, reads_on, steps_on};
 ghost use Rattle.simdram_cli.specs.Works.{OpenedOn, WorkDone};
 
 use crate::stop::Stop;
@@ -56,40 +56,49 @@ pub(crate) fn open<'a, 'p, D: Dram>(
     }
 }
 
-/// Stores the image of the chip, and puts the line of the totals.
-fn finish<'a, F: Folder, S: Sink, D: Dram>(
+/// Does a script, and stores the image after it; answers how many instructions were refused.
+pub(crate) fn work_to_image<'a, F: Folder, S: Sink, D: Dram>(
     machine: &mut Machine<'_>,
-    refused: u64,
+    script: &[Instr],
     name: &'a str,
     files: &mut F,
     out: &mut S,
     chip: &mut D,
-) -> Result<(), Stop<'a>>
+) -> Result<u64, Stop<'a>>
     requires begun { HasBegun (D.view chip.old) }
     requires geometry { (D.view chip.old).geometry ≡ geometry_of machine.old }
-    requires reads { (D.view chip.old).counters.reads < 2 ^ 62 }
+    requires plain { AllByRecursion IsPlain (map view_of script.now) }
+    requires few { length script.now ≤ 2 ^ 25 }
+    requires aap_none { (D.view chip.old).counters.aap ≡ 0 }
+    requires ap_none { (D.view chip.old).counters.ap ≡ 0 }
+    requires few_writes { (D.view chip.old).counters.writes ≤ 2 ^ 60 }
+    requires reads_none { (D.view chip.old).counters.reads ≡ 0 }
     ensures borrow { D.borrow chip.new ≡ D.borrow chip.old }
     ensures kept { Kept (D.view chip.old) (D.view chip.new) }
-    ensures did { OnOk result (DidRead ((geometry_of machine.old).banks
-        * (geometry_of machine.old).rows) (D.view chip.old) (D.view chip.new)) }
-    ensures goes { Goes (reading (D.view chip.old).banks
-        ∷ Store name.now (image_bytes (geometry_of machine.old)
-        (table_in machine.old) (rows_in_banks (D.view chip.old).banks))
-        ∷ Put (total_line (with_reads ((geometry_of machine.old).banks
-        * (geometry_of machine.old).rows) (D.view chip.old).counters) refused) ∷ [])
-        (end_of result) (world (F.view files.old) (S.view out.old) (D.view chip.old))
+    ensures table { IfOk result (λ refused. table_in machine.new ≡ table_at_end
+        (geometry_of machine.old) (operations_by machine.old) (table_in machine.old)
+        (map view_of script.now)) }
+    ensures did { IfOk result (λ refused. DidAndRead
+        (events_on machine.old (map view_of script.now))
+        (reads_on machine.old (map view_of script.now)) (D.view chip.old) (D.view chip.new)) }
+    ensures refused { IfOk result (λ refused. refused
+        ≡ count_by is_refused (replies (geometry_of machine.old) (operations_by machine.old)
+        (table_in machine.old) (map view_of script.now))) }
+    ensures goes { Goes (steps_on machine.old (D.view chip.old).banks (map view_of script.now)
+        ++ (reading_on machine.old (D.view chip.old).banks (map view_of script.now)
+        ∷ Store name.now (image_on machine.old (D.view chip.old).banks
+        (map view_of script.now)) ∷ [])) (end_of result)
+        (world (F.view files.old) (S.view out.old) (D.view chip.old))
         (world (F.view files.new) (S.view out.new) (D.view chip.new)) }
 {
+    let refused = work(machine, script, chip, out)?;
     if machine.image(chip).is_err() {
         return Err(Stop::ChipFailed);
     }
     if files.store(name, machine.file()).is_err() {
         return Err(Stop::CannotWrite(name));
     }
-    if machine.put_total(refused, chip, out).is_err() {
-        return Err(Stop::PutFailed);
-    }
-    Ok(())
+    Ok(refused)
 }
 
 /// Does a script on an image with the operations of a program; answers how many instructions were
@@ -117,7 +126,9 @@ pub(crate) fn perform<'a, F: Folder, S: Sink, D: Dram>(
         (image_found (found_in image.entry)) (D.view chip.new)) }
 {
     let mut machine = open(prog, image, chip, alloc)?;
-    let refused = work(&mut machine, script, chip, out)?;
-    finish(&mut machine, refused, name, files, out, chip)?;
+    let refused = work_to_image(&mut machine, script, name, files, out, chip)?;
+    if machine.put_total(refused, chip, out).is_err() {
+        return Err(Stop::PutFailed);
+    }
     Ok(refused)
 }

@@ -4,7 +4,7 @@ ghost use Rattle.std.specs.Prelude.{◌≡◌, ◌+◌, ◌*◌, ◌<◌, ◌≤
 ghost use Rattle.std.specs.Prelude.{IfOk, OnOk, count_by};
 ghost use Rattle.std.specs.List.{AllByRecursion};
 ghost use Rattle.host_edge.specs.Views.{FolderView};
-ghost use Rattle.dram_model.specs.View.{HasBegun, Kept};
+ghost use Rattle.dram_model.specs.View.{HasBegun};
 ghost use Rattle.object_alloc.specs.Exact.{found_in};
 ghost use Rattle.object_alloc.specs.Reading.{rows_size};
 ghost use Rattle.object_steps.specs.Objects.{LiesOn};
@@ -13,25 +13,19 @@ ghost use Rattle.bbop_isa.specs.Forms.{view_of};
 ghost use Rattle.machine_model.specs.Agrees.{IsPlain};
 ghost use Rattle.machine_model.specs.Opened.{Image as ImageOf};
 ghost use Rattle.machine_model.specs.Routines.{Program};
-ghost use Rattle.machine_model.specs.Script.{is_refused, replies, table_at_end};
 ghost use Rattle.cli_model.specs.World.{world};
-ghost use Rattle.cli_model.specs.Steps.{Goes, Store};
 ghost use Rattle.sim_machine.specs.Machine.{geometry_of, operations_by, table_in};
-ghost use Rattle.sim_machine.specs.Steps.{DidAndRead};
 ghost use Rattle.simdram_cli.specs.Inputs.{image_found};
-ghost use Rattle.simdram_cli.specs.Stops.{end_of};
 ghost use Rattle.cli_model.specs.Runs.{Runs};
 ghost use Rattle.simdram_cli.specs.Plans.{said_of};
-ghost use Rattle.simdram_cli.specs.Tracing.{OpensOn, ScriptRecorded, ScriptTraced, events_on};
-ghost use Rattle.simdram_cli.specs.Tracing.{image_on, reading_on, reads_on, steps_on};
+ghost use Rattle.simdram_cli.specs.Tracing.{OpensOn, ScriptRecorded, ScriptTraced};
 ghost use Rattle.simdram_cli.specs.Tracing.{trace_image_plan, trace_job_plan, trace_plan};
 
 use crate::job::image_stop;
 use crate::load::{load, load_script};
-use crate::perform::open;
+use crate::perform::{open, work_to_image};
 use crate::stop::Stop;
 use crate::words::{IMAGE_MAX, PROG_MAX, SCRIPT_MAX, TraceNames};
-use crate::work::work;
 use bbop_isa::Instr;
 use cmd_trace::{Recorder, Room};
 use dram_model::Dram;
@@ -41,51 +35,6 @@ use sim_machine::Machine;
 use std::alloc::Global;
 use trace_job::spell_trace;
 use uprog_bin::ProgView;
-
-/// Does a script, and stores the image after it; answers how many instructions were refused.
-fn work_to_image<'a, F: Folder, S: Sink, D: Dram>(
-    machine: &mut Machine<'_>,
-    script: &[Instr],
-    name: &'a str,
-    files: &mut F,
-    out: &mut S,
-    chip: &mut D,
-) -> Result<u64, Stop<'a>>
-    requires begun { HasBegun (D.view chip.old) }
-    requires geometry { (D.view chip.old).geometry ≡ geometry_of machine.old }
-    requires plain { AllByRecursion IsPlain (map view_of script.now) }
-    requires few { length script.now ≤ 2 ^ 25 }
-    requires aap_none { (D.view chip.old).counters.aap ≡ 0 }
-    requires ap_none { (D.view chip.old).counters.ap ≡ 0 }
-    requires few_writes { (D.view chip.old).counters.writes ≤ 2 ^ 60 }
-    requires reads_none { (D.view chip.old).counters.reads ≡ 0 }
-    ensures borrow { D.borrow chip.new ≡ D.borrow chip.old }
-    ensures kept { Kept (D.view chip.old) (D.view chip.new) }
-    ensures table { IfOk result (λ refused. table_in machine.new ≡ table_at_end
-        (geometry_of machine.old) (operations_by machine.old) (table_in machine.old)
-        (map view_of script.now)) }
-    ensures did { IfOk result (λ refused. DidAndRead
-        (events_on machine.old (map view_of script.now))
-        (reads_on machine.old (map view_of script.now)) (D.view chip.old) (D.view chip.new)) }
-    ensures refused { IfOk result (λ refused. refused
-        ≡ count_by is_refused (replies (geometry_of machine.old) (operations_by machine.old)
-        (table_in machine.old) (map view_of script.now))) }
-    ensures goes { Goes (steps_on machine.old (D.view chip.old).banks (map view_of script.now)
-        ++ (reading_on machine.old (D.view chip.old).banks (map view_of script.now)
-        ∷ Store name.now (image_on machine.old (D.view chip.old).banks
-        (map view_of script.now)) ∷ [])) (end_of result)
-        (world (F.view files.old) (S.view out.old) (D.view chip.old))
-        (world (F.view files.new) (S.view out.new) (D.view chip.new)) }
-{
-    let refused = work(machine, script, chip, out)?;
-    if machine.image(chip).is_err() {
-        return Err(Stop::ChipFailed);
-    }
-    if files.store(name, machine.file()).is_err() {
-        return Err(Stop::CannotWrite(name));
-    }
-    Ok(refused)
-}
 
 /// Does a script over a recorder on the chip, stores the image after it, and then the trace of what
 /// the recorder saw, where it kept all; answers how many instructions were refused.

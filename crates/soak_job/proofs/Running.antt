@@ -1,9 +1,7 @@
 -- A case's program in both banks.
 use Rattle.std.proofs.Common.{◌≡◌, ℕ, zero, suc, ◌*◌, ◌<◌, ◌≤◌, List, [], ◌∷◌, ◌++◌, ap, ◌∙◌}
 use Rattle.std.proofs.Common.{subst, sym, arith, append-nil}
-use Rattle.std.proofs.Common.{take, drop}
 use Rattle.std.specs.Prelude.{Result, Ok, Err, OnOk, OnErr, All}
-use Rattle.std.proofs.lemmas.List.{take-append-drop}
 use Rattle.std.proofs.lemmas.List.Elements.{All-cons, All-nil}
 use Rattle.bit_rows.specs.declared.TheConstants.{WIDTH_MAX}
 use Rattle.dram_model.specs.declared.geometry.Geometry.{Geometry}
@@ -11,7 +9,7 @@ use Rattle.dram_model.specs.Chip.{Banks, Event, Grew, after}
 use Rattle.dram_model.specs.View.{ChipView, Did, DidRead, with_reads}
 use Rattle.dram_model.proofs.EventLaws.{Grew-more, after-append}
 use Rattle.transpose_unit.specs.Stopped.{StoppedWithin}
-use Rattle.transpose_unit.proofs.Stopping.{stopped_before, stopped_later}
+use Rattle.transpose_unit.proofs.Stopping.{stopped_at, stopped_before, stopped_later, stopped_more}
 use Rattle.uprog_code.specs.declared.binding.Binding.{Binding}
 use Rattle.uprog_code.specs.Fits.{Fits}
 use Rattle.uprog_code.specs.Shape.{Microprogram, Shape}
@@ -93,42 +91,43 @@ case_done state c m a b d e wrote writes ran counts read =
           (Grew-more a.log b.log d.log writes_are wave wrote.log ran.log) read.log);
     }
 
--- where the chip fails in its wave, every bank but one stands where a first part of it leaves it
+-- where the chip fails in its wave, every bank but the command's stands where those before leave it
 pub within_wave : (events : List Event) (qs : Queues) (a b : ChipView)
-    → StoppedAmong events qs a b → StoppedWithin events a.banks b.banks
-within_wave events qs a b s = record {
-  done = take s.done events;
-  left = drop s.done events;
-  all = take-append-drop s.done events;
-  bank = s.bank;
-  others = s.others;
-}
+    → StoppedAmong events qs a b → StoppedWithin 0 events a.banks b.banks
+within_wave events qs a b s =
+    stopped_at events s.done s.bank s.command a.banks b.banks s.failed s.others
 
 abbrev case_wave : Case → Microprogram → List Event
 case_wave c m = wave_events in_turn 2 Ahead (case_queues c m)
 
 -- and so in the writes of its sources, in the wave after them, or in the reading
 pub writes_failed : (state : ℕ) (c : Case) (m : Microprogram) (a b : Banks)
-    → StoppedWithin (source_writes state 0 c.n (source_kinds c.op)) a b
-    → StoppedWithin (case_events state c m) a b
-writes_failed state c m a b s = stopped_before (source_writes state 0 c.n (source_kinds c.op))
+    → StoppedWithin 0 (source_writes state 0 c.n (source_kinds c.op)) a b
+    → StoppedWithin 2 (case_events state c m) a b
+writes_failed state c m a b s = stopped_before 2 (source_writes state 0 c.n (source_kinds c.op))
     (case_wave c m) a b s
+
+after_writes : (state : ℕ) (c : Case) (m : Microprogram) (a b : ChipView) (d : Banks)
+    → Did (source_writes state 0 c.n (source_kinds c.op)) a b
+    → StoppedWithin 2 (case_wave c m) b.banks d → StoppedWithin 2 (case_events state c m) a.banks d
+after_writes state c m a b d wrote s =
+    stopped_later 2 (source_writes state 0 c.n (source_kinds c.op)) (case_wave c m) a.banks b.banks
+    d wrote.banks s
 
 pub wave_failed : (state : ℕ) (c : Case) (m : Microprogram) (a b : ChipView) (d : Banks)
     → Did (source_writes state 0 c.n (source_kinds c.op)) a b
-    → StoppedWithin (case_wave c m) b.banks d
-    → StoppedWithin (case_events state c m) a.banks d
+    → StoppedWithin 0 (case_wave c m) b.banks d
+    → StoppedWithin 2 (case_events state c m) a.banks d
 wave_failed state c m a b d wrote s =
-    stopped_later (source_writes state 0 c.n (source_kinds c.op)) (case_wave c m) a.banks b.banks
-    d wrote.banks s
+    after_writes state c m a b d wrote (stopped_more 2 (case_wave c m) b.banks d s)
 
 pub reading_failed : (state : ℕ) (c : Case) (m : Microprogram) (a b d : ChipView) (e : Banks)
     → Did (source_writes state 0 c.n (source_kinds c.op)) a b → Did (case_wave c m) b d
-    → StoppedWithin [] d.banks e → StoppedWithin (case_events state c m) a.banks e
+    → StoppedWithin 2 [] d.banks e → StoppedWithin 2 (case_events state c m) a.banks e
 reading_failed state c m a b d e wrote ran s =
-    wave_failed state c m a b e wrote
-    (subst (λ (es : List Event). StoppedWithin es b.banks e) (append-nil (case_wave c m))
-    (stopped_later (case_wave c m) [] b.banks d.banks e ran.banks s))
+    after_writes state c m a b e wrote
+    (subst (λ (es : List Event). StoppedWithin 2 es b.banks e) (append-nil (case_wave c m))
+    (stopped_later 2 (case_wave c m) [] b.banks d.banks e ran.banks s))
 
 pub on_err : {T E P Q : Type 0} (r : Result T E) → OnErr r P → (P → Q) → OnErr r Q
 on_err (Ok x) p f = tt

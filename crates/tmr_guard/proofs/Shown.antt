@@ -1,13 +1,14 @@
 -- What comes of a guarded print.
-use Rattle.std.proofs.Common.{◌≡◌, ℕ, ◌*◌, ◌≤◌, false, cond, List, [], ◌∷◌, ◌++◌, Option, Some}
+use Rattle.std.proofs.Common.{◌≡◌, ℕ, ◌*◌, ◌≤◌, false, cond, List, [], ◌∷◌, ◌++◌, map, Option, Some}
 use Rattle.std.proofs.Common.{None, refl, sym, ◌∙◌, ap, subst, arith, append-nil}
 use Rattle.std.specs.Prelude.{take, is_none}
 use Rattle.host_edge.specs.Views.{SinkView, Known, AppendsPart}
 use Rattle.host_edge.proofs.Tells.{Known-trans}
 use Rattle.faults.specs.Counts.{Rose}
+use Rattle.dram_model.specs.Chip.{Event}
 use Rattle.dram_model.specs.View.{ChipView, DidRead}
 use Rattle.transpose_unit.specs.Stopped.{StoppedWithin}
-use Rattle.transpose_unit.proofs.Stopping.{stopped_before}
+use Rattle.transpose_unit.proofs.Stopping.{stopped_more}
 use Rattle.object_steps.specs.Lines.{DidReadAtMost, values_of}
 use Rattle.bit_rows.specs.declared.TheConstants.{WIDTH_MAX}
 use Rattle.uprog_code.specs.declared.TheConstants.{WALK_MAX}
@@ -25,11 +26,11 @@ use Rattle.machine_model.specs.Steps.{reply_by, if_done}
 use Rattle.machine_model.specs.Script.{rows_printed, sum_done}
 use Rattle.machine_model.specs.Report.{line, place_text, said_of}
 use Rattle.machine_model.specs.Report.Said.{Answered, Printed}
-use Rattle.machine_model.specs.Pieces.{piece_of, piece_events}
+use Rattle.machine_model.specs.Pieces.{events_of_pieces, piece_of, piece_events}
 use Rattle.object_steps.specs.Objects.{RisesAtMost}
 use Rattle.sim_machine.specs.declared.machine.Machine.{Machine}
 use Rattle.sim_machine.specs.Machine.{geometry_of, operations_by, program_of, table_in, turn_in}
-use Rattle.sim_machine.specs.Machine.{is_print, line_shown, reads_by, reply_of}
+use Rattle.sim_machine.specs.Machine.{banks_read, is_print, line_shown, reads_by, reply_of}
 use Rattle.sim_machine.specs.Steps.{DidAndRead}
 use Rattle.sim_machine.proofs.Rising.{rises_less}
 use Rattle.sim_machine.proofs.Stepping.{if_same, no_part, print_table}
@@ -37,7 +38,7 @@ use Rattle.guard_model.specs.Triples.{x_letter}
 use Rattle.guard_model.specs.Guarded.{joined, place_on}
 use Rattle.guard_model.proofs.Runs.{none_yet, script_done, script_for, script_refused}
 use Rattle.tmr_guard.specs.Steps.{Broke, Guarded, RanBy, line_by, reply_by as answer_by}
-use Rattle.tmr_guard.specs.Steps.{events_by, reads_by as guard_reads, script_by}
+use Rattle.tmr_guard.specs.Steps.{banks_read_by, events_by, reads_by as guard_reads, script_by}
 use Rattle.tmr_guard.proofs.Runs.{plus_none, ran_one}
 
 -- a reply that is done, or a refusal, tells of the conditions
@@ -134,9 +135,9 @@ module _ (m new : Machine) (number : ℕ) (place k : Place) (chip chip' : ChipVi
         → table_in new ≡ table_in m → turn_in new ≡ turn_in m
         → DidRead (reads_by m (Print k)) chip chip'
         → RisesAtMost (16 * WIDTH_MAX) chip.counters chip'.counters
-        → Known (λ x y. y ≡ x ++ text) sink.sent sink'.sent
+        → Known (λ x y. y ≡ x ++ text) sink.sent sink'.sent → sink'.faults ≡ sink.faults
         → Guarded m new number (Print place) chip chip' sink sink' reply
-    print_shown reply d e h table turn did rises sent =
+    print_shown reply d e h table turn did rises sent unfailed =
         let allowed : why_not ≡ None = done_is why_not _ d (sym h ∙ e) in
         record {
           answer = e ∙ sym reply_is;
@@ -148,6 +149,7 @@ module _ (m new : Machine) (number : ℕ) (place k : Place) (chip chip' : ChipVi
               (omega arith) rises;
           sent = subst (λ t. Known (λ x y. y ≡ x ++ t) sink.sent sink'.sent)
               (whole_line allowed) sent;
+          unfailed = unfailed;
         }
 
     pub print_refused : (reply : Reply) (w : Why) (between : SinkView)
@@ -157,8 +159,9 @@ module _ (m new : Machine) (number : ℕ) (place k : Place) (chip chip' : ChipVi
         → RisesAtMost (16 * WIDTH_MAX) chip.counters chip'.counters
         → Known (λ x y. y ≡ x ++ text) sink.sent between.sent
         → Known (λ x y. y ≡ x ++ line number (Answered reply)) between.sent sink'.sent
+        → sink'.faults ≡ sink.faults
         → Guarded m new number (Print place) chip chip' sink sink' reply
-    print_refused reply w between e h table turn did rises first sent =
+    print_refused reply w between e h table turn did rises first sent unfailed =
         let refused : why_not ≡ Some w = refused_is why_not _ w (sym h ∙ e) in
         let none : reads_by m (Print k) ≡ 0 = no_reads why_not w _ refused in
         let quiet : DidRead 0 chip chip' = subst (λ n. DidRead n chip chip') none did in
@@ -183,12 +186,14 @@ module _ (m new : Machine) (number : ℕ) (place k : Place) (chip chip' : ChipVi
               (λ x y z p q. q ∙ ap (λ t. t ++ line number (Answered reply))
               (nothing_more x y text (no_text w refused) p)
               ∙ ap (λ t. x ++ t) (refused_line reply w e h)) first sent;
+          unfailed = unfailed;
         }
 
     -- where a call fails
     pub print_broke : (fault : StepFault) → why_not ≡ None
         → (fault ≡ ChipFault → Rose chip.faults chip'.faults)
-        → (fault ≡ ChipFault → StoppedWithin [] chip.banks chip'.banks)
+        → (fault ≡ ChipFault
+        → StoppedWithin (banks_read m (Print k)) [] chip.banks chip'.banks)
         → (fault ≡ WriteFault → Rose sink.faults sink'.faults)
         → (fault ≡ WriteFault → DidReadAtMost (reads_by m (Print k)) chip chip')
         → Known (AppendsPart text) sink.sent sink'.sent
@@ -197,9 +202,16 @@ module _ (m new : Machine) (number : ℕ) (place k : Place) (chip chip' : ChipVi
         let reads : guard_reads m (Print place) ≡ reads_by m (Print k) =
         ap (sum_done rows_printed (geometry_of m) (operations_by m) (table_in m))
         (script_shown allowed) ∙ sym (plus_none (reads_by m (Print k))) in
+        let quiet : events_by m (Print place) ≡ [] =
+        ap (λ (xs : List Instruction). events_of_pieces (geometry_of m) (operations_by m) (turn_in m)
+        (table_in m) (map piece_of xs)) (script_shown allowed) ∙ append-nil _
+        ∙ if_same why_not [] in
         record {
           chip_rose = chip_rose;
-          left = λ e. stopped_before [] (events_by m (Print place)) chip.banks chip'.banks (left e);
+          left = λ e. subst (λ (p : Place). StoppedWithin (banks_read m (Print p))
+              (events_by m (Print place)) chip.banks chip'.banks) is
+              (subst (λ (es : List Event). StoppedWithin (banks_read m (Print k)) es chip.banks
+              chip'.banks) (sym quiet) (left e));
           sink_rose = sink_rose;
           unsent = λ e p. absurd (cc);
           done = λ e p. absurd (cc);
@@ -260,11 +272,11 @@ line_is m number chip instr reply h e =
 -- the chip failed, and nothing was put
 pub silent_broke : (m : Machine) (number : ℕ) (instr : Instruction) (chip chip' : ChipView)
     (sink : SinkView) → Rose chip.faults chip'.faults
-    → StoppedWithin (events_by m instr) chip.banks chip'.banks
+    → StoppedWithin 0 (events_by m instr) chip.banks chip'.banks
     → Broke m number instr chip chip' sink sink ChipFault
 silent_broke m number instr chip chip' sink rose left = record {
   chip_rose = λ e. rose;
-  left = λ e. left;
+  left = λ e. stopped_more (banks_read_by m instr) _ _ _ left;
   sink_rose = λ e. absurd (cc);
   unsent = λ e h. refl;
   done = λ e. absurd (cc);
@@ -295,11 +307,12 @@ pub reply_guarded : (m new : Machine) (number : ℕ) (instr : Instruction) (repl
     → reply ≡ answer_by m instr → RanBy m new (script_by m instr) chip chip'
     → RisesAtMost (80 * WALK_MAX) chip.counters chip'.counters
     → Known (λ x y. y ≡ x ++ line number (Answered reply)) sink.sent sink'.sent
-    → Guarded m new number instr chip chip' sink sink' reply
-reply_guarded m new number instr reply chip chip' sink sink' h e ran rises sent = record {
+    → sink'.faults ≡ sink.faults → Guarded m new number instr chip chip' sink sink' reply
+reply_guarded m new number instr reply chip chip' sink sink' h e ran rises sent unfailed = record {
   answer = e;
   ran = ran;
   rises = rises;
   sent = subst (λ text. Known (λ x y. y ≡ x ++ text) sink.sent sink'.sent)
       (line_is m number chip instr reply h e) sent;
+  unfailed = unfailed;
 }

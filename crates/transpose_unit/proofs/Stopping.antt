@@ -1,12 +1,15 @@
 -- A call that failed in one of several turns of events.
 use Rattle.std.proofs.Common.{◌≡◌, ℕ, zero, suc, ◌+◌, ◌-◌, ◌<◌, List, [], ◌∷◌, ◌++◌, refl, sym, ◌∙◌}
-use Rattle.std.proofs.Common.{ap, arith, append_assoc, append-nil}
-use Rattle.std.specs.Prelude.{flat_map, map}
+use Rattle.std.proofs.Common.{ap, arith, append_assoc, append-nil, subst, take, drop, Some}
+use Rattle.std.specs.Prelude.{flat_map, map, slice_get}
+use Rattle.std.proofs.lemmas.List.{take-append-drop}
 use Rattle.std.specs.List.{range_with_len}
 use Rattle.std.proofs.lemmas.Bool.{ne_eqb}
+use Rattle.dram_model.specs.declared.address.Command.{Command}
+use Rattle.dram_model.specs.Chip.Event.{Row}
 use Rattle.dram_model.specs.Chip.{Banks, Event, after, bank_of, happens, SameBut}
 use Rattle.dram_model.specs.View.{ChipView, StoppedIn}
-use Rattle.transpose_unit.specs.Stopped.{StoppedWithin}
+use Rattle.transpose_unit.specs.Stopped.{IsNext, StoppedWithin}
 use Rattle.dram_model.proofs.EventLaws.{after-append}
 
 turns_more : (E : ℕ → List Event) (a n : ℕ) → flat_map E (range_with_len a (suc n))
@@ -38,64 +41,114 @@ turns_left E m (suc d) =
           ∙ sym (turns_more E 0 (m + d)) ∙ ap (λ n. flat_map E (range_with_len 0 n)) e,
     )
 
+-- the first of some events in one bank is the next one
+pub next_in : (f : ℕ → Event) (w bank : ℕ) (more : List Event) → 0 < w → bank_of (f 0) ≡ bank
+    → IsNext 0 (map f (range_with_len 0 w) ++ more) bank
+next_in f zero bank more some same = absurd (omega (arith, some))
+next_in f (suc w) bank more some same = sym same
+
 -- in one of so many turns
 pub stopped_turn : (E : ℕ → List Event) (n k bank : ℕ) → k < n → (a b c : Banks)
+    → ((more : List Event) → IsNext 0 (E k ++ more) bank)
     → b ≡ after (flat_map E (range_with_len 0 k)) a → SameBut bank b c
-    → StoppedWithin (flat_map E (range_with_len 0 n)) a c
-stopped_turn E n k bank l a b c did others =
-    let rest = turns_left E k (n - k) in
-    let e : k + (n - k) ≡ n = omega (arith, l) in
+    → StoppedWithin 0 (flat_map E (range_with_len 0 n)) a c
+stopped_turn E n k bank l a b c next did others =
+    let rest = turns_left E (k + 1) (n - (k + 1)) in
+    let e : k + 1 + (n - (k + 1)) ≡ n = omega (arith, l) in
+    let z : 0 + k ≡ k = omega arith in
+    let one : suc k ≡ k + 1 = omega arith in
+    let turn : flat_map E (range_with_len 0 k) ++ E k ≡ flat_map E (range_with_len 0 (k + 1)) =
+    ap (λ i. flat_map E (range_with_len 0 k) ++ E i) (sym z) ∙ sym (turns_more E 0 k)
+    ∙ ap (λ m. flat_map E (range_with_len 0 m)) one in
     record {
       done = flat_map E (range_with_len 0 k);
-      left = rest.0;
-      all = rest.1 ∙ ap (λ m. flat_map E (range_with_len 0 m)) e;
+      left = E k ++ rest.0;
+      all = sym (append_assoc (flat_map E (range_with_len 0 k)) (E k) rest.0)
+          ∙ ap (λ (es : List Event). es ++ rest.0) turn
+          ∙ rest.1 ∙ ap (λ m. flat_map E (range_with_len 0 m)) e;
       bank = bank;
+      failed = next rest.0;
       others = λ i ne. others i ne ∙ ap (λ (banks : Banks). banks i) did;
     }
 
 -- before any of them
-pub stopped_first : (events : List Event) (bank : ℕ) (a b : Banks) → SameBut bank a b
-    → StoppedWithin events a b
-stopped_first events bank a b others = record {
+pub stopped_first : (reads : ℕ) (events : List Event) (bank : ℕ) (a b : Banks)
+    → IsNext reads events bank → SameBut bank a b → StoppedWithin reads events a b
+stopped_first reads events bank a b next others = record {
   done = [];
   left = events;
   all = refl;
   bank = bank;
+  failed = next;
   others = others;
 }
 
 -- after others
-pub stopped_later : (es fs : List Event) (a b c : Banks) → b ≡ after es a → StoppedWithin fs b c
-    → StoppedWithin (es ++ fs) a c
-stopped_later es fs a b c did s = record {
+pub stopped_later : (reads : ℕ) (es fs : List Event) (a b c : Banks) → b ≡ after es a
+    → StoppedWithin reads fs b c → StoppedWithin reads (es ++ fs) a c
+stopped_later reads es fs a b c did s = record {
   done = es ++ s.done;
   left = s.left;
   all = append_assoc es s.done s.left ∙ ap (λ (l : List Event). es ++ l) s.all;
   bank = s.bank;
+  failed = s.failed;
   others = λ i ne. s.others i ne ∙ ap (λ (banks : Banks). after s.done banks i) did
       ∙ ap (λ (banks : Banks). banks i) (sym (after-append es s.done a));
 }
 
+next_before : (reads : ℕ) (left more : List Event) (bank : ℕ) → IsNext 0 left bank
+    → IsNext reads (left ++ more) bank
+next_before reads [] more bank next = absurd (omega (arith, next))
+next_before reads (event ∷ left) more bank next = next
+
 -- and before others
-pub stopped_before : (es fs : List Event) (a b : Banks) → StoppedWithin es a b
-    → StoppedWithin (es ++ fs) a b
-stopped_before es fs a b s = record {
+pub stopped_before : (reads : ℕ) (es fs : List Event) (a b : Banks) → StoppedWithin 0 es a b
+    → StoppedWithin reads (es ++ fs) a b
+stopped_before reads es fs a b s = record {
   done = s.done;
   left = s.left ++ fs;
   all = sym (append_assoc s.done s.left fs) ∙ ap (λ (l : List Event). l ++ fs) s.all;
   bank = s.bank;
+  failed = next_before reads s.left fs s.bank s.failed;
   others = s.others;
 }
 
+-- where none is read, and so where some are
+pub stopped_more : (reads : ℕ) (events : List Event) (a b : Banks) → StoppedWithin 0 events a b
+    → StoppedWithin reads events a b
+stopped_more reads events a b s =
+    subst (λ (es : List Event). StoppedWithin reads es a b) (append-nil events)
+    (stopped_before reads events [] a b s)
+
 -- where it is known at which event
 pub stopped_at_event : (events : List Event) (a b : ChipView) → StoppedIn events a b
-    → StoppedWithin events a.banks b.banks
+    → StoppedWithin 0 events a.banks b.banks
 stopped_at_event events a b s = record {
   done = s.done;
   left = s.event ∷ s.left;
   all = s.all;
   bank = bank_of s.event;
+  failed = refl;
   others = s.others;
+}
+
+next_at : (events : List Event) (n bank : ℕ) (command : Command)
+    → slice_get events n ≡ Some (Row bank command) → IsNext 0 (drop n events) bank
+next_at [] n bank command e = absurd (cc)
+next_at (event ∷ events) zero bank command e = let is : event ≡ Row bank command = cc in rw is refl
+next_at (event ∷ events) (suc n) bank command e = next_at events n bank command e
+
+-- and by its number
+pub stopped_at : (events : List Event) (n bank : ℕ) (command : Command) (a b : Banks)
+    → slice_get events n ≡ Some (Row bank command) → SameBut bank (after (take n events) a) b
+    → StoppedWithin 0 events a b
+stopped_at events n bank command a b e others = record {
+  done = take n events;
+  left = drop n events;
+  all = take-append-drop n events;
+  bank = bank;
+  failed = next_at events n bank command e;
+  others = others;
 }
 
 -- events of one bank leave the others

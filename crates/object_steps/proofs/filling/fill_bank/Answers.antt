@@ -1,4 +1,4 @@
-use Rattle.std.proofs.Common.{◌≡◌, ℕ, ◌+◌, ◌∙◌, ap, arith}
+use Rattle.std.proofs.Common.{◌≡◌, ℕ, ◌+◌, ◌<◌, ◌∙◌, ap, arith}
 use Rattle.bit_rows.specs.Bits.{bit_at, bit_number}
 use Rattle.dram_model.specs.declared.dram.Counters.{Counters}
 use Rattle.dram_model.specs.declared.address.Command.TheVariants.{Aap}
@@ -53,3 +53,8 @@ returns-in_err-aap-clause-failed g c =
           (λ k. addr.D (c.args.o.base + k)) c.args.bank 0 c.loop-k.k first.banks b ne;
     } in
     on_err c.from_residual.result all
+
+pub returns-in_err-aap-clause-some : goal.returns-in_err-aap-clause-some
+returns-in_err-aap-clause-some g c =
+    let some : 0 < c.args.o.width = omega arith in
+    on_err c.from_residual.result some

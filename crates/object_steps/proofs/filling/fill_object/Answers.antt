@@ -6,12 +6,12 @@ use Rattle.dram_model.specs.declared.address.Command.TheVariants.{Aap}
 use Rattle.dram_model.specs.declared.address.Addr.TheVariants as addr
 use Rattle.dram_model.specs.Chip.Event.{Row}
 use Rattle.object_steps.proofs.Rises.{few_events, few_rows}
-use Rattle.std.proofs.Common.{◌≤◌, ◌≢◌, ◌∙◌, ◌*◌, ◌+◌, ◌<◌, ap, arith}
+use Rattle.std.proofs.Common.{◌≤◌, ◌≢◌, ◌∙◌, ◌*◌, ◌+◌, ◌<◌, ap, arith, refl}
 use Rattle.dram_model.specs.Chip.{Banks}
 use Rattle.dram_model.specs.Elements.{FailedBelow}
 use Rattle.transpose_unit.specs.Stopped.{StoppedWithin}
 use Rattle.dram_model.proofs.EventLaws.{Kept-more}
-use Rattle.transpose_unit.proofs.Stopping.{stopped_turn}
+use Rattle.transpose_unit.proofs.Stopping.{next_in, stopped_turn}
 use Rattle.machine_model.specs.Columns.{segments}
 use Rattle.machine_model.specs.Steps.{fill_events}
 use Rattle.object_steps.specs.Objects.{filled_in}
@@ -80,9 +80,12 @@ returns-in_err-fill_bank-clause-stopped g c =
     let new = g.D.Dram.view c.fill_bank.new.dram in
     let inside : c.loop-bank.bank < segments c.args.g c.args.o =
     omega (arith, c.segments-bank-end.ensures.value) in
-    let all : StoppedWithin (fill_events c.args.g c.args.o c.args.value) first.banks new.banks =
+    let all : StoppedWithin 0 (fill_events c.args.g c.args.o c.args.value) first.banks new.banks =
     stopped_turn (filled_in c.args.o c.args.value) (segments c.args.g c.args.o) c.loop-bank.bank
-    c.loop-bank.bank inside first.banks now.banks new.banks c.loop-bank.invariant.did.banks
+    c.loop-bank.bank inside first.banks now.banks new.banks (λ more. next_in (λ k.
+    Row c.loop-bank.bank (Aap (addr.C (bit_number (bit_at c.args.value k)))
+    (addr.D (c.args.o.base + k)))) c.args.o.width c.loop-bank.bank more
+    c.in_err-fill_bank.ensures.some refl) c.loop-bank.invariant.did.banks
     c.in_err-fill_bank.ensures.failed.others in
     on_err c.from_residual.result all
 

@@ -1,4 +1,4 @@
-use Rattle.std.proofs.Common.{◌*◌, ◌/◌, ◌<◌, ◌≤◌, ◌++◌, length, map}
+use Rattle.std.proofs.Common.{◌≡◌, ◌*◌, ◌/◌, ◌<◌, ◌++◌, length, map}
 use Rattle.std.specs.Prelude.{min}
 use Rattle.std.specs.List.{range_with_len}
 use Rattle.host_edge.specs.Views.{Known}
@@ -14,7 +14,7 @@ invariant-loop-block g l =
     let first = S.view l.initial.out in
     let now = S.view l.out in
     record {
-      counts : first.faults ≤ now.faults;
+      unfailed : now.faults ≡ first.faults;
       room : length l.text.items < 4096;
       held : Known (AppendsUpTo l.text.items (l.initial.text.items ++ values_text
           (map (stage_number (length l.stage / stage_rows l.n) l.n l.stage)

@@ -1,4 +1,4 @@
-use Rattle.std.proofs.Common.{◌≡◌, ◌*◌, ◌<◌, ◌≤◌, ◌++◌, length}
+use Rattle.std.proofs.Common.{◌≡◌, ◌*◌, ◌<◌, ◌++◌, length}
 use Rattle.host_edge.specs.Views.{Known}
 use Rattle.host_edge.specs.Sends.{AppendsUpTo}
 use Rattle.dram_model.specs.View.{DidRead, Kept}
@@ -18,7 +18,7 @@ invariant-loop-bank g l =
       kept : Kept first now;
       did : DidRead (l.bank * l.o.width) first now;
       stage : length l.stage ≡ length l.initial.stage;
-      counts : (S.view l.initial.out).faults ≤ (S.view l.out).faults;
+      unfailed : (S.view l.out).faults ≡ (S.view l.initial.out).faults;
       room : length l.text.items < 4096;
       held : Known (AppendsUpTo l.text.items (l.initial.text.items ++ values_text
           (first_values l.o.base l.o.width l.o.count l.bank first.banks)))

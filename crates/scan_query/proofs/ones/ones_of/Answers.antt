@@ -1,3 +1,4 @@
+use Rattle.machine_model.specs.Columns.{segments}
 use Rattle.std.proofs.Common.{◌≡◌, ◌∙◌, ◌<◌, ℕ, ap, arith, length, refl}
 use Rattle.dram_model.specs.declared.geometry.Geometry.{Geometry}
 use Rattle.dram_model.specs.Elements.{column_count}
@@ -44,5 +45,8 @@ pub returns-in_err-found-clause-left : goal.returns-in_err-found-clause-left
 returns-in_err-found-clause-left g c =
     let view = g.D.Dram.view in
     let p = err_from_is_err_and c.from_residual.result c.from_residual.ensures.1 in
-    rw p.1 (read_failed c.banks.bank c.banks.bank (view c.args.dram.now) (view c.banks.dram)
-    (view c.ones_of_row.new.dram) c.banks.invariant.did c.in_err-found.ensures.failed.others)
+    let inside : c.banks.bank < segments c.args.g c.args.object =
+    omega (arith, c.banks-test.true, c.segments-bank-end.ensures.value) in
+    rw p.1 (read_failed (segments c.args.g c.args.object) c.banks.bank c.banks.bank
+    (view c.args.dram.now) (view c.banks.dram) (view c.ones_of_row.new.dram) inside
+    c.banks.invariant.did c.in_err-found.ensures.failed.others)

@@ -1,4 +1,4 @@
-use Rattle.std.proofs.Common.{◌≡◌, ◌∙◌, sym, ap, subst, arith, map, length, List}
+use Rattle.std.proofs.Common.{◌≡◌, ◌∙◌, sym, ap, subst, arith, map, length, List, []}
 use Rattle.std.proofs.lemmas.List.{length-map}
 use Rattle.std.proofs.Common.{None, Some, Ok}
 use Rattle.std.proofs.Common.{◌-◌}
@@ -6,6 +6,7 @@ use Rattle.std.specs.List.{AllByRecursion}
 use Rattle.dram_model.specs.declared.dram.Counters.{Counters}
 use Rattle.dram_model.specs.Elements.{segments_of}
 use Rattle.dram_model.specs.View.{DidRead}
+use Rattle.transpose_unit.specs.Stopped.{StoppedWithin}
 use Rattle.object_alloc.specs.Listed.{Named}
 use Rattle.uprog_code.specs.declared.walker.Counts.{Counts}
 use Rattle.machine_model.specs.Agrees.{IsPlain}
@@ -18,7 +19,8 @@ use Rattle.scan_model.specs.Queries.{Node, size}
 use Rattle.scan_query.specs.Queries.{node_of, nodes_in, sources_fit}
 use Rattle.std.proofs.lemmas.Result.{err_from_is_err_and}
 use Rattle.scan_query.specs.Running.{FailedAmong, NodesRan, NodesRun, StoppedAt, refused_node}
-use Rattle.scan_query.proofs.Failing.{failed_after, failed_in}
+use Rattle.transpose_unit.proofs.Stopping.{stopped_more}
+use Rattle.scan_query.proofs.Failing.{failed_after, left_by_all, left_by_some}
 use Rattle.scan_query.proofs.Answering.{all_done, answer_checked, answer_done, answer_refused}
 use Rattle.scan_query.proofs.Answering.{asked}
 use Rattle.scan_query.proofs.Answering.{check_says, counters_end, counts_after, few_nodes, goes_on}
@@ -443,7 +445,8 @@ returns-in_err-why-clause-left g c =
     let failed = subst (λ (ns : List Node). FailedAmong (scan_script (table_in a) ns) a s t) same
     c.in_err-why.ensures.runs in
     let p = err_from_is_err_and c.from_residual.result c.from_residual.ensures.1 in
-    rw p.1 (failed_in a s t nodes failed)
+    rw p.1 (stopped_more (segments_of (geometry_of a) (count_of (table_in a) nodes)) _ s.banks
+    t.banks failed.left)
 
 pub returns-in_err-found-clause-left : goal.returns-in_err-found-clause-left
 returns-in_err-found-clause-left g c =
@@ -457,6 +460,56 @@ returns-in_err-found-clause-left g c =
     let ran : NodesRan nodes a b s t = subst (λ (ns : List Node). NodesRan ns a b s t) same
     (subst (λ r. NodesRun (map node_of c.as_slice-nodes.result.now) a b s t (Ok r))
     c.in_default-2.is c.in_ok-why.ensures.runs) in
+    let q = c.requires.query.0 in
+    let h = c.requires.query.1 in
+    let k = asked a b s t nodes _ q _ c.table.ensures.laid c.requires.geometry
+    (g.met.D.Dram.width c.args.dram.now c.requires.begun) c.requires.program h same
+    (sym (check_says _ _ _ _ _ _ _ c.table.ensures.objects c.table-2.ensures.objects same
+    c.count_of-count.ensures c.check.ensures) ∙ c.in_default.is)
+    c.in_default-2.is c.in_ok-why.ensures.runs in
+    let shown = c.geometry.ensures ∙ c.in_ok-why.ensures.kept.geometry ∙ c.requires.geometry in
+    let object = c.last_object-object.ensures (table_in a)
+    (free_name (table_in a) (size q), k.leaves.object) (c.table-3.ensures.objects ∙ k.left) in
+    let reads = reads_are a s nodes q c.geometry.result c.last_object-object.result h k.leaves shown
+    object in
     let p = err_from_is_err_and c.from_residual-in_err-found.result
     c.from_residual-in_err-found.ensures.1 in
-    rw p.1 (failed_after a b s t u nodes ran c.in_err-found.ensures.left)
+    rw p.1 (failed_after (segments_of (geometry_of a) (count_of (table_in a) nodes)) a b s t u nodes
+    ran (subst (λ n. StoppedWithin n [] t.banks u.banks) reads c.in_err-found.ensures.left))
+
+pub returns-in-Some-2-clause-used : goal.returns-in-Some-2-clause-used
+returns-in-Some-2-clause-used g c checks =
+    let a = c.args.machine.now in
+    let b = c.run_nodes.new.machine in
+    let s = g.D.Dram.view c.args.dram.now in
+    let t = g.D.Dram.view c.run_nodes.new.dram in
+    let same = ap (map node_of) c.as_slice-nodes.ensures.value in
+    let runs = subst (λ r. NodesRun (map node_of c.as_slice-nodes.result.now) a b s t (Ok r))
+    c.in-Some-2.is c.in_ok-why.ensures.runs in
+    left_by_some c.in-Some-2.why a s t (scan_script (table_in a) (nodes_in c.args.query.now))
+    (subst (λ (ns : List Node). StoppedAt c.in-Some-2.why (scan_script (table_in a) ns) a s t) same
+    runs.1)
+
+pub returns-clause-used : goal.returns-clause-used
+returns-clause-used g c checks =
+    let a = c.args.machine.now in
+    let b = c.run_nodes.new.machine in
+    let s = g.D.Dram.view c.args.dram.now in
+    let t = g.D.Dram.view c.run_nodes.new.dram in
+    let nodes = nodes_in c.args.query.now in
+    let same = ap (map node_of) c.as_slice-nodes.ensures.value in
+    let ran : NodesRan nodes a b s t = subst (λ (ns : List Node). NodesRan ns a b s t) same
+    (subst (λ r. NodesRun (map node_of c.as_slice-nodes.result.now) a b s t (Ok r))
+    c.in_default-2.is c.in_ok-why.ensures.runs) in
+    c.in_ok-found.ensures.did.banks ∙ left_by_all a b s t (scan_script (table_in a) nodes) ran.ran
+
+pub returns-in-Some-clause-used : goal.returns-in-Some-clause-used
+returns-in-Some-clause-used g c none =
+    let a = c.args.machine.now in
+    let nodes = nodes_in c.args.query.now in
+    let same = ap (map node_of) c.as_slice-nodes.ensures.value in
+    let checks : checked (table_in a) nodes ≡ Some (c.in-Some.why, c.in-Some.k) =
+    sym (check_says _ _ _ _ _ _ _
+    c.table.ensures.objects c.table-2.ensures.objects same c.count_of-count.ensures
+    c.check.ensures) ∙ c.in-Some.is in
+    absurd (not_both (checked (table_in a) nodes) (c.in-Some.why, c.in-Some.k) checks none)

@@ -1,4 +1,4 @@
-use Rattle.std.proofs.Common.{[], ◌+◌, ◌*◌, arith, vec_len, ap, ◌∙◌, subst}
+use Rattle.std.proofs.Common.{[], ◌+◌, ◌*◌, ◌<◌, arith, vec_len, ap, ◌∙◌, subst}
 use Rattle.faults.specs.Counts.{Rose}
 use Rattle.dram_model.specs.Chip.{Banks}
 use Rattle.transpose_unit.specs.Stopped.{StoppedWithin}
@@ -53,8 +53,9 @@ pub returns-in_err-read_bank-clause-stopped : goal.returns-in_err-read_bank-clau
 returns-in_err-read_bank-clause-stopped g c =
     let first = g.D.Dram.view c.args.dram.now in
     let new = g.D.Dram.view c.read_bank.new.dram in
-    let all : StoppedWithin [] first.banks new.banks =
-    stopped_first [] c.loop-bank.bank first.banks new.banks (λ b ne.
+    let inside : c.loop-bank.bank < c.args.g.banks = omega arith in
+    let all : StoppedWithin c.args.g.banks [] first.banks new.banks =
+    stopped_first c.args.g.banks [] c.loop-bank.bank first.banks new.banks inside (λ b ne.
     c.in_err-read_bank.ensures.failed.others b ne
     ∙ ap (λ (banks : Banks). banks b) c.loop-bank.invariant.did.banks) in
     on_err c.from_residual.result all

@@ -1,4 +1,4 @@
-use Rattle.std.proofs.Common.{arith, ◌∙◌, ap, refl}
+use Rattle.std.proofs.Common.{arith, ◌∙◌, ◌<◌, ap, refl}
 use Rattle.std.proofs.lemmas.Grind.{common_steps}
 use Rattle.dram_model.proofs.EventLaws.{Kept-more}
 use Rattle.transpose_unit.proofs.Stopping.{others_stay}
@@ -37,3 +37,8 @@ returns-in_err-write_row-clause-failed g c =
           c.loop-row.row first.banks b ne;
     } in
     on_err c.from_residual.result all
+
+pub returns-in_err-write_row-clause-some : goal.returns-in_err-write_row-clause-some
+returns-in_err-write_row-clause-some g c =
+    let some : 0 < c.args.g.rows = omega arith in
+    on_err c.from_residual.result some

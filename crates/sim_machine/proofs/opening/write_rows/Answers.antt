@@ -1,8 +1,10 @@
-use Rattle.std.proofs.Common.{arith, ◌∙◌, ◌<◌}
+use Rattle.std.proofs.Common.{arith, refl, ◌∙◌, ◌<◌}
 use Rattle.std.proofs.lemmas.Grind.{common_steps}
 use Rattle.dram_model.proofs.EventLaws.{Kept-more}
 use Rattle.faults.specs.Counts.{Rose}
-use Rattle.transpose_unit.proofs.Stopping.{stopped_turn}
+use Rattle.dram_model.specs.Chip.Event.{Write}
+use Rattle.object_alloc.specs.Spelling.{rows_in}
+use Rattle.transpose_unit.proofs.Stopping.{next_in, stopped_turn}
 use Rattle.transpose_unit.specs.Stopped.{StoppedWithin}
 use Rattle.object_steps.proofs.Filled.{on_err}
 use Rattle.sim_machine.specs.Opening.{all_writes, bank_writes}
@@ -34,8 +36,11 @@ returns-in_err-write_bank-clause-stopped g c =
     let now = g.D.Dram.view c.loop-bank.dram in
     let new = g.D.Dram.view c.write_bank.new.dram in
     let inside : c.loop-bank.bank < c.args.g.banks = omega arith in
-    let all : StoppedWithin (all_writes c.args.g c.args.rows.now) first.banks new.banks =
+    let all : StoppedWithin 0 (all_writes c.args.g c.args.rows.now) first.banks new.banks =
     stopped_turn (bank_writes c.args.g c.args.rows.now) c.args.g.banks c.loop-bank.bank
-    c.loop-bank.bank inside first.banks now.banks new.banks c.loop-bank.invariant.did.banks
+    c.loop-bank.bank inside first.banks now.banks new.banks (λ more. next_in (λ row.
+    Write c.loop-bank.bank row (rows_in c.args.g c.args.rows.now c.loop-bank.bank row))
+    c.args.g.rows c.loop-bank.bank more c.in_err-write_bank.ensures.some refl)
+    c.loop-bank.invariant.did.banks
     c.in_err-write_bank.ensures.failed.others in
     on_err c.from_residual.result all

@@ -1,4 +1,4 @@
-use Rattle.std.proofs.Common.{refl, arith}
+use Rattle.std.proofs.Common.{refl, arith, ◌∙◌}
 use Rattle.sim_machine.proofs.Lines.{on_err}
 use Rattle.sim_machine.proofs.Lines.{known_more, known_part}
 use Rattle.sim_machine.proofs.report.put_lines.Goals as goal
@@ -16,7 +16,7 @@ loop-reply-preserved g c =
     let V = g.S.Sink.view in
     record {
       next = omega arith;
-      faults = omega arith;
+      unfailed = c.in_ok-put_line.ensures.unfailed ∙ c.loop-reply.invariant.unfailed;
       sent = known_more c.args.number c.args.replies.now
           c.loop-reply.reply-index c.loop-reply.next _ _ (V c.args.out.now).sent
           (V c.loop-reply.out).sent (V c.put_line.new.out).sent (omega arith) refl

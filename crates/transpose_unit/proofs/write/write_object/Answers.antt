@@ -1,15 +1,16 @@
-use Rattle.std.proofs.Common.{◌≡◌, ◌≢◌, ℕ, ◌+◌, ◌*◌, ◌<◌, List, length, get_or, ap, subst, ◌∙◌}
+use Rattle.std.proofs.Common.{◌≡◌, ◌≢◌, ℕ, ◌+◌, ◌*◌, ◌<◌, List, length, get_or, ap, subst, ◌∙◌, refl}
 use Rattle.std.proofs.Common.{arith, mul-add}
 use Rattle.std.specs.List.{flat_map, range_with_len}
 use Rattle.std.specs.Int.{div_ceil}
 use Rattle.dram_model.specs.declared.geometry.Geometry.{Geometry}
 use Rattle.dram_model.specs.Chip.{Banks, Event}
+use Rattle.dram_model.specs.Chip.Event.{Write}
 use Rattle.dram_model.specs.View.{Did}
 use Rattle.transpose_unit.specs.Stopped.{StoppedWithin}
 use Rattle.dram_model.proofs.EventLaws.{Did-more, Kept-more}
-use Rattle.transpose_unit.proofs.Stopping.{stopped_turn}
+use Rattle.transpose_unit.proofs.Stopping.{next_in, stopped_turn}
 use Rattle.dram_model.specs.Elements.{column_count, segments_of, size_of, padded_to, write_events}
-use Rattle.dram_model.specs.Elements.{numbers_in, FailedBelow}
+use Rattle.dram_model.specs.Elements.{numbers_in, row_bits, FailedBelow}
 use Rattle.bit_rows.specs.Bits.{bit_at}
 use Rattle.transpose_unit.specs.Stage.{stage_rows}
 use Rattle.transpose_unit.proofs.Rows.{rows-enough}
@@ -117,11 +118,13 @@ returns-in_err-write_rows-clause-stopped g c =
     in
     let inside : c.loop-bank.bank < segments_of c.args.g (length c.args.values.now) =
     omega (arith, segments) in
-    let all : StoppedWithin (flat_map (bank_events c.args.g c.args.base c.args.n numbers)
+    let all : StoppedWithin 0 (flat_map (bank_events c.args.g c.args.base c.args.n numbers)
     (range_with_len 0 (segments_of c.args.g (length c.args.values.now)))) first.banks new.banks =
     stopped_turn (bank_events c.args.g c.args.base c.args.n numbers)
     (segments_of c.args.g (length c.args.values.now)) c.loop-bank.bank c.loop-bank.bank inside
-    first.banks now.banks new.banks c.loop-bank.invariant.did.banks
+    first.banks now.banks new.banks (λ more. next_in (λ k. Write c.loop-bank.bank
+    (c.args.base + k) (row_bits c.args.g numbers c.loop-bank.bank k)) c.args.n c.loop-bank.bank more
+    c.in_err-write_rows.ensures.some refl) c.loop-bank.invariant.did.banks
     c.in_err-write_rows.ensures.failed.others in
     on_err_always c.from_residual.result all
 

@@ -1,4 +1,4 @@
-use Rattle.std.proofs.Common.{◌≡◌, ℕ, ◌+◌, ◌-◌, ◌*◌, ◌∷◌, [], ◌≤◌, List, take, drop, ap, ◌∙◌, arith}
+use Rattle.std.proofs.Common.{◌≡◌, ℕ, ◌+◌, ◌-◌, ◌*◌, ◌∷◌, [], ◌≤◌, ◌<◌, List, take, drop, ap, ◌∙◌, arith}
 use Rattle.std.proofs.Common.{refl}
 use Rattle.bit_rows.specs.Bits.{bits_of_words}
 use Rattle.dram_model.specs.Chip.{Banks, Event}
@@ -58,6 +58,11 @@ returns-in_err-write_row-clause-failed g c =
           first.banks b ne;
     } in
     on_err_always c.from_residual.result all
+
+pub returns-in_err-write_row-clause-some : goal.returns-in_err-write_row-clause-some
+returns-in_err-write_row-clause-some g c =
+    let some : 0 < c.args.n = omega arith in
+    on_err_always c.from_residual.result some
 
 pub slice_bounds-write_row-end : goal.slice_bounds-write_row-end
 slice_bounds-write_row-end g c =

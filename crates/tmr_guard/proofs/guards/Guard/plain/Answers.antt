@@ -1,8 +1,8 @@
-use Rattle.std.proofs.Common.{subst}
+use Rattle.std.proofs.Common.{◌≡◌, false, subst}
 use Rattle.bbop_isa.specs.Forms.{Instruction, view_of}
 use Rattle.transpose_unit.specs.Stopped.{StoppedWithin}
 use Rattle.machine_model.specs.Pieces.{piece_of}
-use Rattle.sim_machine.specs.Machine.{events_by as plain_events}
+use Rattle.sim_machine.specs.Machine.{events_by as plain_events, is_print}
 use Rattle.tmr_guard.specs.Steps.{DidOne, machine_in}
 use Rattle.tmr_guard.proofs.Bounded.{few_commands}
 use Rattle.tmr_guard.proofs.guards.Guard.plain.Goals as goal
@@ -27,6 +27,7 @@ returns-in-Ok-done-clause-few g c =
 pub returns-clause-left : goal.returns-clause-left
 returns-clause-left g c =
     let V = g.D.Dram.view in
-    subst (λ (i : Instruction). StoppedWithin (plain_events (machine_in c.args.self.now)
-    (piece_of i)) (V c.args.dram.now).banks (V c.done.new.dram).banks) c.copied.ensures
+    subst (λ (i : Instruction). is_print i ≡ false → StoppedWithin 0
+    (plain_events (machine_in c.args.self.now) (piece_of i)) (V c.args.dram.now).banks
+    (V c.done.new.dram).banks) c.copied.ensures
     c.in-Err-done.ensures.left

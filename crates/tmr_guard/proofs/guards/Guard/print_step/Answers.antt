@@ -1,4 +1,4 @@
-use Rattle.std.proofs.Common.{ap, arith}
+use Rattle.std.proofs.Common.{ap, arith, ◌∙◌}
 use Rattle.std.specs.Prelude.{Err}
 use Rattle.sim_machine.specs.Machine.{table_in, turn_in}
 use Rattle.tmr_guard.specs.Steps.{machine_in}
@@ -23,7 +23,7 @@ returns-clause-came g c =
     (g.S.Sink.view c.args.out.now) (g.S.Sink.view c.print_as.new.out) c.copy_place-copy.ensures
     c.in-Ok.reply c.in-Done.field-0 c.in-Ok.ensures.reply c.in-Done.is
     (ap table_in c.print_as.ensures.same) (ap turn_in c.print_as.ensures.same)
-    c.in-Ok.ensures.did c.in-Ok.ensures.rises c.in-Ok.ensures.sent
+    c.in-Ok.ensures.did c.in-Ok.ensures.rises c.in-Ok.ensures.sent c.in-Ok.ensures.unfailed
 
 pub returns-in-Ok-put_reply-clause-came : goal.returns-in-Ok-put_reply-clause-came
 returns-in-Ok-put_reply-clause-came g c =
@@ -33,6 +33,7 @@ returns-in-Ok-put_reply-clause-came g c =
     c.in-Ok.reply c.in-Refused.field-0 (g.S.Sink.view c.print_as.new.out) c.in-Ok.ensures.reply
     c.in-Refused.is (ap table_in c.print_as.ensures.same) (ap turn_in c.print_as.ensures.same)
     c.in-Ok.ensures.did c.in-Ok.ensures.rises c.in-Ok.ensures.sent c.in-Ok-put_reply.ensures.sent
+    (c.in-Ok-put_reply.ensures.unfailed ∙ c.in-Ok.ensures.unfailed)
 
 pub returns-in-Err-put_reply-clause-came : goal.returns-in-Err-put_reply-clause-came
 returns-in-Err-put_reply-clause-came g c =
