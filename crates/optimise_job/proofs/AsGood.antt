@@ -33,8 +33,8 @@ shorter : (n room : ℕ) (ops : List TextOp) (o : TextOp) (e : Microprogram) (li
     (r : Microprogram) (before after : Counts) → op_named ops e.name ≡ Some o
     → IsShorter n room o e (issues line) r before after → IsAsGood n ops e r
 shorter n room ops o e line r before after named s = record {
-  name = s.short.made.name;
-  shape = s.short.made.shape;
+  name = s.short.made.2.name;
+  shape = s.short.made.2.shape;
   elsewhere = s.elsewhere;
   does = λ o' named' d. let same : o ≡ o' = only o o' (sym named ∙ named') in
       subst (DoesAt n r) same s.does;

@@ -1,7 +1,7 @@
 -- What is said of the entry that came of an offer.
 use Rattle.std.proofs.Common.{◌≡◌, ℕ, ◌<◌, ◌≤◌, List, refl, sym, ap, ◌∙◌, subst, Some, None}
 use Rattle.std.proofs.Common.{Ok, Err, Result, length, ◌+◌, inl, inr, ⊎_elim, arith}
-use Rattle.std.specs.Prelude.{◌≢◌, ◌⊎◌, IfOk}
+use Rattle.std.specs.Prelude.{◌≢◌, ◌⊎◌, ◌^◌, IfOk}
 use Rattle.std.proofs.lemmas.Bool.{cases_eq}
 use Rattle.bit_rows.specs.declared.TheConstants.{WIDTH_MAX}
 use Rattle.uprog_code.specs.declared.registers.Issued.{Issued}
@@ -9,42 +9,44 @@ use Rattle.uprog_code.specs.declared.walker.BadWalk.{BadWalk}
 use Rattle.uprog_code.specs.declared.walker.Counts.{Counts}
 use Rattle.uprog_code.specs.Shape.{Microprogram}
 use Rattle.uprog_code.specs.Machine.{Ended, HasEnded, Issue, Stuck, Trace, trace}
+use Rattle.uprog_code.specs.declared.code.Uop.{Uop}
 use Rattle.uprog_code.specs.Count.{counts_of, walked}
 use Rattle.uprog_code.specs.Texts.{TextOp}
-use Rattle.width_entry.specs.Widths.{IsForWidth, moved, test_steps, trace_less}
-use Rattle.width_entry.proofs.Budget.{issues_same}
+use Rattle.width_entry.specs.Lines.{line_room}
+use Rattle.width_entry.specs.Widths.{HasLine, IsOwn}
+use Rattle.width_entry.proofs.Again.{line_stays}
 use Rattle.verify_core.specs.declared.verdict.Verdict.TheVariants.{Right}
 use Rattle.verify_core.specs.Verdicts.{DoesAt, IsVerdict}
 use Rattle.optimise_job.specs.declared.offer.Outcome.{Outcome}
 use Rattle.optimise_job.specs.declared.offer.Outcome.TheVariants as outcome
 use Rattle.optimise_job.specs.declared.offer.Refusal.{Refusal}
 use Rattle.optimise_job.specs.declared.offer.Refusal.TheVariants.{Left}
-use Rattle.optimise_job.specs.Outcomes.{HasShortLine, IsOfferOf, IsOutcome, IsOutcomeOf}
+use Rattle.optimise_job.specs.Outcomes.{HasNoRoom, HasShortLine, IsOfferOf, IsOutcome, IsOutcomeOf}
 use Rattle.optimise_job.specs.Outcomes.{IsShorter, op_named}
 
-ends_moved : (by : ℕ) (t : Trace) → HasEnded t → HasEnded (moved by t)
-ends_moved by (Ended cs) h = h
-ends_moved by (Stuck at why) h = h
-
--- a walk that ends without what the test takes ends with it
-pub too_long : (n m : ℕ) (line : List Issue) (e r : Microprogram) → IsForWidth n line e r → 0 < m
-    → m ≤ WIDTH_MAX → m ≢ n → (HasEnded (trace r.shape r.code m) → ⊥)
-    → HasEnded (trace_less (test_steps n m) e m) → ⊥
-too_long n m line e r is some narrow ne never h =
-    never (subst HasEnded (sym (is.elsewhere m some narrow ne)) (ends_moved _ _ h))
-
 -- the walk of an entry with a line ends at its width
-pub ends_here : (n : ℕ) (line : List Issue) (e r : Microprogram) → IsForWidth n line e r
+pub ends_here : (n : ℕ) (line : List Issue) (e r : Microprogram) → HasLine n line e r
     → HasEnded (trace r.shape r.code n)
-ends_here n line e r is = subst HasEnded (sym is.here) tt
+ends_here n line e r has = subst HasEnded (sym has.2.here) tt
 
 -- and has the line's counts
 pub counts_here : (n : ℕ) (line : List Issue) (e r : Microprogram) (counts : Counts)
-    → IsForWidth n line e r → walked (trace r.shape r.code n) ≡ Ok counts → counts ≡ counts_of line
-counts_here n line e r counts is w = same counts (counts_of line) (sym w ∙ ap walked is.here)
+    → HasLine n line e r → walked (trace r.shape r.code n) ≡ Ok counts → counts ≡ counts_of line
+counts_here n line e r counts has w =
+    same counts (counts_of line) (sym w ∙ ap walked has.2.here)
   where
     same : (a b : Counts) → ◌≡◌ {A = Result Counts BadWalk} (Ok a) (Ok b) → a ≡ b
     same a b e = cc
+
+-- there is no room for the line
+pub no_code : (n room : ℕ) (line : List Issue) (e : Microprogram) → ((own : List Uop)
+    × IsOwn n e.code own × (2 ^ 16 ≤ line_room line + 11 + length own)) → HasNoRoom n room line e
+no_code n room line e h = (h.0, h.1, inl h.2)
+
+pub no_room : (n room : ℕ) (line : List Issue) (e r : Microprogram) → HasLine n line e r
+    → length e.code + room < length r.code → HasNoRoom n room line e
+no_room n room line e r has lt =
+    let long = has.2.long in (has.0, has.1, inr (omega (arith, long, lt)))
 
 pub same_counts : (t : Trace) (a b : Counts) → walked t ≡ Ok a → walked t ≡ Ok b → a ≡ b
 same_counts t a b v w = same a b (sym v ∙ w)
@@ -54,15 +56,16 @@ same_counts t a b v w = same a b (sym v ∙ w)
 
 pub is_shorter : (n room : ℕ) (o : TextOp) (e : Microprogram) (line : List Issue)
     (r : Microprogram) (before after counts : Counts) → HasShortLine n line e r before after
-    → length r.code ≤ length e.code + room → DoesAt n e o → IsVerdict n r o (Right counts) → ((m : ℕ) → 0 < m → m ≤ WIDTH_MAX → m ≢ n
+    → 0 < n → n ≤ WIDTH_MAX → length r.code ≤ length e.code + room → DoesAt n e o
+    → IsVerdict n r o (Right counts) → ((m : ℕ) → 0 < m → m ≤ WIDTH_MAX → m ≢ n
     → HasEnded (trace e.shape e.code m) → HasEnded (trace r.shape r.code m))
     → IsShorter n room o e line r before after
-is_shorter n room o e line r before after counts short fits did verdict ends = record {
+is_shorter n room o e line r before after counts short pos thin fits did verdict ends = record {
   short = short;
   fits = fits;
   did = did;
   does = verdict.2;
-  elsewhere = λ m some narrow ne. issues_same n m line e r short.made some narrow ne
+  elsewhere = λ m some narrow ne. line_stays n m line e r short.made pos thin some narrow ne
       (ends m some narrow ne);
 }
 

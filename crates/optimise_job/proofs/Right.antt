@@ -40,7 +40,7 @@ offer_right n room ops o e line r outcome.TooLong named is = stays n ops o e r i
 offer_right n room ops o e line r (outcome.LongWalk m) named is = stays n ops o e r is.0 named is.1
 offer_right n room ops o e line r (outcome.Said verdict) named is = stays n ops o e r is.0 named is.1
 offer_right n room ops o e line r (outcome.Taken before after) named is =
-    does_named n ops o e r is.short.made.name named is.does
+    does_named n ops o e r is.short.made.2.name named is.does
 
 -- an entry with no op has none to do
 no_op_right : (n : ℕ) (ops : List TextOp) (e r : Microprogram) → r ≡ e

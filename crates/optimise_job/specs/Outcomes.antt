@@ -5,6 +5,7 @@ use Rattle.std.specs.Prelude.{Option, Some, None, bytes_eq, find}
 use Rattle.std.specs.Prelude.{Vec}
 use Rattle.std.specs.Global.{Global}
 use Rattle.bit_rows.specs.declared.TheConstants.{WIDTH_MAX}
+use Rattle.uprog_code.specs.declared.code.Uop.{Uop}
 use Rattle.uprog_code.specs.declared.registers.Issued.{Issued}
 use Rattle.uprog_code.specs.declared.walker.Counts.{Counts}
 use Rattle.uprog_code.specs.Shape.{Microprogram}
@@ -12,7 +13,7 @@ use Rattle.uprog_code.specs.Machine.{HasEnded, Issue, trace}
 use Rattle.uprog_code.specs.Count.{counts_of, walked}
 use Rattle.uprog_code.specs.Texts.{TextOp}
 use Rattle.width_entry.specs.Lines.{first_unnamed, issues, line_room}
-use Rattle.width_entry.specs.Widths.{IsForWidth, IssuesSame, test_steps, trace_less}
+use Rattle.width_entry.specs.Widths.{HasLine, IsOwn, IssuesSame}
 use Rattle.verify_core.specs.declared.verdict.Verdict.{Verdict}
 use Rattle.verify_core.specs.declared.verdict.Verdict.TheVariants.{Right, Wrong, Stuck, OtherKinds}
 use Rattle.verify_core.specs.declared.verdict.Verdict.TheVariants.{Unknown}
@@ -40,7 +41,7 @@ IsNotRight (Unknown limit) = Unit {0}
 -- but for the budget of a walk
 pub record HasShortLine (n : ℕ) (line : List Issue) (e r : Microprogram) (before after : Counts)
     : Type 0 where
-  pub made : IsForWidth n line e r
+  pub made : HasLine n line e r
   pub was : walked (trace e.shape e.code n) ≡ Ok before
   pub is : walked (trace r.shape r.code n) ≡ Ok after
   pub fewer : commands after < commands before
@@ -55,6 +56,12 @@ pub record IsShorter (n room : ℕ) (o : TextOp) (e : Microprogram) (line : List
   pub does : DoesAt n r o
   pub elsewhere : (m : ℕ) → 0 < m → m ≤ WIDTH_MAX → m ≢ n → IssuesSame e r m
 
+-- with the line e would have 2 ^ 16 instructions, or more than so many more than it has
+abbrev pub HasNoRoom : (n room : ℕ) → List Issue → Microprogram → Type 0
+HasNoRoom n room line e = (own : List Uop) × IsOwn n e.code own
+    × ((2 ^ 16 ≤ line_room line + 11 + length own)
+    ⊎ (length e.code + room < line_room line + 11 + length own))
+
 -- The outcome is true of the line that is offered for e, an entry with an op, and r, what became
 -- of it: e itself unless the line was taken. An entry is left alone unless it is known that it does
 -- its op at the width
@@ -68,14 +75,14 @@ IsOfferOf n room o e line r outcome.NotFewer = (r ≡ e) × DoesAt n e o × ((be
     → commands before ≤ commands (counts_of (issues line)))
 IsOfferOf n room o e line r (outcome.Command k) =
     (r ≡ e) × DoesAt n e o × (first_unnamed e.shape n line ≡ Some k)
-IsOfferOf n room o e line r outcome.TooLong =
-    (r ≡ e) × DoesAt n e o × ((2 ^ 16 ≤ line_room (issues line) + 11 + length e.code)
-    ⊎ (room < line_room (issues line) + 11))
+IsOfferOf n room o e line r outcome.TooLong = (r ≡ e) × DoesAt n e o
+    × HasNoRoom n room (issues line) e
 IsOfferOf n room o e line r (outcome.LongWalk m) = (r ≡ e) × DoesAt n e o × (0 < m)
     × (m ≤ WIDTH_MAX) × (m ≢ n) × HasEnded (trace e.shape e.code m)
-    × (HasEnded (trace_less (test_steps n m) e m) → ⊥)
+    × ((made : Microprogram) × HasLine n (issues line) e made
+    × (HasEnded (trace made.shape made.code m) → ⊥))
 IsOfferOf n room o e line r (outcome.Said verdict) = (r ≡ e) × DoesAt n e o × IsNotRight verdict
-    × ((made : Microprogram) × IsForWidth n (issues line) e made × IsVerdict n made o verdict)
+    × ((made : Microprogram) × HasLine n (issues line) e made × IsVerdict n made o verdict)
 IsOfferOf n room o e line r (outcome.Taken before after) =
     IsShorter n room o e (issues line) r before after
 

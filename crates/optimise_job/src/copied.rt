@@ -1,24 +1,13 @@
 //! An entry as a value of its own.
 
-ghost use Rattle.std.specs.Prelude.{◌≡◌, ◌≤◌, IfOk};
+ghost use Rattle.std.specs.Prelude.{◌≡◌, IfOk};
 ghost use Rattle.uprog_code.specs.Shape.{microprogram_of};
 ghost use Rattle.uprog_code.specs.Legal.{IsLegalCode};
 
-use faults::{NoMemory, keep};
+use faults::NoMemory;
 use std::alloc::Global;
-use uprog_code::{EntryCode, Fetch, Uop};
-
-/// The instructions of an entry.
-fn code_of<F: Fetch>(entry: &F, alloc: Global) -> Result<Vec<Uop>, NoMemory>
-    requires { IsLegalCode (F.shape entry.now) (F.code entry.now) }
-    ensures { IfOk result (λ code. code.items ≡ F.code entry.now) }
-{
-    let mut code = Vec::new(alloc);
-    for at in 0..entry.len() {
-        keep(&mut code, entry.fetch(at))?;
-    }
-    Ok(code)
-}
+use uprog_code::{EntryCode, Fetch};
+use width_entry::code_of;
 
 /// The same entry once more.
 pub(crate) fn copied<F: Fetch>(entry: &F, alloc: Global) -> Result<EntryCode, NoMemory>

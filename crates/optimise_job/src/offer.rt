@@ -193,7 +193,7 @@ fn shortened_entry<F: Fetch>(
         Err(NotMade::Command(k)) => return Err(Refusal::Left(Outcome::Command(k))),
         Err(NotMade::TooLong) => return Err(Refusal::Left(Outcome::TooLong)),
     };
-    if made.code.len() - usize::from(entry.len()) > room {
+    if made.code.len() > usize::from(entry.len()).saturating_add(room) {
         return Err(Refusal::Left(Outcome::TooLong));
     }
     let after = counts_of(&made, n);

@@ -59,6 +59,25 @@ fn lines_for_two_widths(rt: HostRuntime) -> Result<(), Fail> {
     Ok(())
 }
 
+/// Another line for the same width takes the first one's place.
+#[test]
+#[tactic(auto, using(crate::proofs::Xor::xor_is_legal))]
+fn another_line_takes_its_place(rt: HostRuntime) -> Result<(), Fail> {
+    let xor = xor_entry(rt.alloc())?;
+    let line = copies();
+    let two = for_width(&xor, 2, line.as_slice(), rt.alloc())
+        .ok()
+        .ok_or("an entry")?;
+    let again = for_width(&two, 2, &line[0..1], rt.alloc())
+        .ok()
+        .ok_or("an entry")?;
+    let once = for_width(&xor, 2, &line[0..1], rt.alloc())
+        .ok()
+        .ok_or("an entry")?;
+    assert!(rt; again.code.as_slice() == once.code.as_slice());
+    Ok(())
+}
+
 /// Width 1 has no position 1.
 #[test]
 #[tactic(auto, using(crate::proofs::Xor::xor_is_legal))]

@@ -94,11 +94,11 @@ ended_is : (t : Trace) → HasEnded t → t ≡ Ended (issues_of t)
 ended_is (Ended cs) h = refl
 ended_is (Stuck at why) h = absurd h
 
-moved_ends : (by : ℕ) (t : Trace) → HasEnded (moved by t) → HasEnded t
+pub moved_ends : (by : ℕ) (t : Trace) → HasEnded (moved by t) → HasEnded t
 moved_ends by (Ended cs) h = h
 moved_ends by (Stuck at why) h = h
 
-moved_issues : (by : ℕ) (t : Trace) → issues_of (moved by t) ≡ issues_of t
+pub moved_issues : (by : ℕ) (t : Trace) → issues_of (moved by t) ≡ issues_of t
 moved_issues by (Ended cs) = refl
 moved_issues by (Stuck at why) = refl
 

@@ -7,5 +7,8 @@ pub mod Widths
 pub mod Budget
 pub mod Whole
 pub mod Named
-pub mod Own
+pub mod OneMore
 pub mod Made
+pub mod Again
+pub mod Apart
+pub mod Parts

@@ -30,7 +30,7 @@ module _ (e : Microprogram) (n : ℕ) (cs : List Issue) (some : 0 < n) (narrow :
       shape = refl;
       long = let long = long_is n (line_code cs) e.code in omega (arith, long, by_is);
       here = here e.shape n cs e.code some narrow named room;
-      elsewhere = λ m pos le ne. elsewhere e.shape n cs e.code m some narrow pos ne
+      elsewhere = λ m pos le ne. elsewhere e.shape n (line_code cs) e.code m some narrow pos ne
           ∙ ap (λ by. moved by (issue e.shape e.code m (WALK_MAX - test_steps n m) 0 start)) by_is;
     }
 

@@ -20,10 +20,7 @@ use Rattle.width_entry.proofs.Lines.{line_does, line_room_is}
 use Rattle.width_entry.proofs.Moved.{moved_walk}
 use Rattle.width_entry.proofs.Legal.{behind_is, front, front_long}
 
-module _ (shape : Shape) (n : ℕ) (cs : List Issue) (own : List Uop) where
-  abbrev line : List Uop
-  line = line_code cs
-
+module _ (shape : Shape) (n : ℕ) (line own : List Uop) where
   abbrev code : List Uop
   code = behind n line own
 
@@ -55,24 +52,9 @@ module _ (shape : Shape) (n : ℕ) (cs : List Issue) (own : List Uop) where
   first_cleared = let at : other ≡ 1 + length line + 8 = omega arith in
       ap (slice_get code) at ∙ behind_line 1
 
-  second_cleared : slice_get code (other + 1) ≡ Some (SetI 1 0)
+  pub second_cleared : slice_get code (other + 1) ≡ Some (SetI 1 0)
   second_cleared = let at : other + 1 ≡ 2 + length line + 8 = omega arith in
       ap (slice_get code) at ∙ behind_line 2
-
-  -- at the width
-  pub here : 0 < n → n ≤ WIDTH_MAX → AreNameable shape n cs
-      → length line + 11 + length own < 2 ^ 16 → trace shape code n ≡ Ended cs
-  here some narrow named room =
-      let less : n ≡ suc (n - 1) = omega arith in
-      let long = line_room_is cs in
-      let left = WALK_MAX - (4 * n + 3) in
-      sym (trace_is shape code n)
-      ∙ begun shape code n n other begins WALK_MAX (WALK_MAX - 2) (omega arith)
-      ∙ ap (λ x. go shape code n (WALK_MAX - 2) 2 x x) less
-      ∙ same shape code n n other begins (n - 1) left (WALK_MAX - 2) (omega arith)
-      ∙ line_does shape code n cs (test_code n other)
-      (SetI 0 0 ∷ SetI 1 0 ∷ map (moved_uop (length line + 11)) own) left 0 0 named refl
-      (omega (arith, long, room, narrow))
 
   -- from the entry's own first instruction on
   own_walk : (m left : ℕ) → go shape code m left (other + 1 + 1) 0 0
@@ -126,3 +108,23 @@ module _ (shape : Shape) (n : ℕ) (cs : List Issue) (own : List Uop) where
   elsewhere m some narrow pos ne =
       ⊎_elim (λ lt. lesser m pos narrow lt) (λ le. greater m some narrow (omega (arith, le, ne)))
       (cases_lt m n)
+
+-- at the width
+pub here : (shape : Shape) (n : ℕ) (cs : List Issue) (own : List Uop) → 0 < n → n ≤ WIDTH_MAX
+    → AreNameable shape n cs → length (line_code cs) + 11 + length own < 2 ^ 16
+    → trace shape (behind n (line_code cs) own) n ≡ Ended cs
+here shape n cs own some narrow named room =
+    let line = line_code cs in
+    let code = behind n line own in
+    let other = length line + 9 in
+    let test = begins shape n line own in
+    let less : n ≡ suc (n - 1) = omega arith in
+    let long = line_room_is cs in
+    let left = WALK_MAX - (4 * n + 3) in
+    sym (trace_is shape code n)
+    ∙ begun shape code n n other test WALK_MAX (WALK_MAX - 2) (omega arith)
+    ∙ ap (λ x. go shape code n (WALK_MAX - 2) 2 x x) less
+    ∙ same shape code n n other test (n - 1) left (WALK_MAX - 2) (omega arith)
+    ∙ line_does shape code n cs (test_code n other)
+    (SetI 0 0 ∷ SetI 1 0 ∷ map (moved_uop (length line + 11)) own) left 0 0 named refl
+    (omega (arith, long, room, narrow))

@@ -1,6 +1,8 @@
 -- An entry that issues a line at one width, and what another entry issues at all others.
 use Rattle.std.specs.Prelude.{◌≡◌, ◌≢◌, ℕ, ◌+◌, ◌-◌, ◌*◌, ◌<◌, ◌≤◌, nat_lt, if◌then◌else◌}
-use Rattle.std.specs.Prelude.{List, length}
+use Rattle.std.specs.Prelude.{◌⊎◌, List, length}
+use Rattle.uprog_code.specs.declared.code.Uop.{Uop}
+use Rattle.width_entry.specs.Code.{behind}
 use Rattle.bit_rows.specs.declared.TheConstants.{WIDTH_MAX}
 use Rattle.uprog_code.specs.declared.TheConstants.{WALK_MAX}
 use Rattle.uprog_code.specs.Shape.{Microprogram}
@@ -31,6 +33,20 @@ pub record IsForWidth (n : ℕ) (line : List Issue) (e r : Microprogram) : Type 
   pub here : trace r.shape r.code n ≡ Ended line
   pub elsewhere : (m : ℕ) → 0 < m → m ≤ WIDTH_MAX → m ≢ n → trace r.shape r.code m
       ≡ moved (line_room line + 11) (trace_less (test_steps n m) e m)
+
+-- The instructions behind a test of the width n and its line; all of them where there is no such line
+abbrev pub IsOwn : ℕ → List Uop → List Uop → Type 0
+IsOwn n code own = ((line : List Uop) × (code ≡ behind n line own))
+    ⊎ ((own ≡ code) × ((line us : List Uop) → code ≡ behind n line us → ⊥))
+
+-- the entry with this code
+abbrev pub with_code : Microprogram → List Uop → Microprogram
+with_code e code = record { name = e.name; shape = e.shape; code = code }
+
+-- r issues the line at width n, in the place of a line for n that e has, and else what e issues
+abbrev pub HasLine : ℕ → List Issue → Microprogram → Microprogram → Type 0
+HasLine n line e r =
+    (own : List Uop) × IsOwn n e.code own × IsForWidth n line (with_code e own) r
 
 -- both walks end with the same commands, or neither ends
 pub record IssuesSame (e r : Microprogram) (n : ℕ) : Type 0 where

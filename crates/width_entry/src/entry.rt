@@ -1,15 +1,17 @@
 //! An entry with a line for one width.
 
 ghost use Rattle.std.specs.Prelude.{◌≡◌, ◌+◌, ◌<◌, ◌≤◌, ◌^◌, ◌↔◌, ℕ, Err, IfOk, IsTrue};
-ghost use Rattle.std.specs.Prelude.{Some, length};
+ghost use Rattle.std.specs.Prelude.{List, Some, length};
 ghost use Rattle.uprog_code.specs.Shape.{Microprogram, microprogram_of, shape_of};
 ghost use Rattle.uprog_code.specs.Legal.{IsLegalCode};
 ghost use Rattle.width_entry.specs.Lines.{first_unnamed, issues, line_room};
 ghost use Rattle.width_entry.specs.Code.{behind};
-ghost use Rattle.width_entry.specs.Widths.{IsForWidth};
+ghost use Rattle.uprog_code.specs.declared.code.Uop.{Uop};
+ghost use Rattle.width_entry.specs.Widths.{HasLine, IsForWidth, IsOwn};
 
 use crate::code::{line_code, put_own, test_code};
 use crate::commands::unnamed;
+use crate::own::own_entry;
 use bit_rows::WIDTH_MAX;
 use faults::{NoMemory, keep};
 use std::alloc::Global;
@@ -57,10 +59,8 @@ fn has_no_room(line: usize, own: u16) -> bool
     line > CODE_MAX || line + usize::from(BESIDE) + usize::from(own) > CODE_MAX
 }
 
-/// An entry that issues the line at width n, and what the given entry issues at every other width.
-///
-/// At other widths the test takes a few instructions of the budget of a walk.
-pub fn for_width<F: Fetch>(
+/// The entry with the line before its code.
+fn put_before<F: Fetch>(
     entry: &F,
     n: u8,
     line: &[Issued],
@@ -94,4 +94,35 @@ pub fn for_width<F: Fetch>(
         return Err(NotMade::NoMemory);
     };
     Ok(EntryCode { head, code })
+}
+
+/// An entry that issues the line at width n, and what the given entry issues at every other width.
+/// Where the given entry has a line for width n, the new one takes its place.
+///
+/// At other widths the test takes a few instructions of the budget of a walk.
+pub fn for_width<F: Fetch>(
+    entry: &F,
+    n: u8,
+    line: &[Issued],
+    alloc: Global,
+) -> Result<EntryCode, NotMade>
+    requires legal { IsLegalCode (F.shape entry.now) (F.code entry.now) }
+    requires some { 0 < n }
+    requires narrow { n ≤ WIDTH_MAX }
+    ensures made { IfOk result (λ made. HasLine n (issues line.now) (record {
+      name = F.name entry.now;
+      shape = F.shape entry.now;
+      code = F.code entry.now;
+    }) (microprogram_of made)) }
+    ensures legal { IfOk result (λ made. IsLegalCode (shape_of made.head) made.code.items) }
+    ensures command { (k : ℕ) → result ≡ Err (NotMade.Command k)
+        → first_unnamed (F.shape entry.now) n line.now ≡ Some k }
+    ensures long { result ≡ Err NotMade.TooLong → (own : List Uop)
+        × IsOwn n (F.code entry.now) own
+        × (2 ^ 16 ≤ line_room (issues line.now) + 11 + length own) }
+{
+    match own_entry(entry, n, alloc) {
+        Ok(own) => put_before(&own, n, line, alloc),
+        Err(NoMemory) => Err(NotMade::NoMemory),
+    }
 }

@@ -7,7 +7,9 @@ mod commands;
 mod entry;
 mod laws;
 mod line;
+mod own;
 
 pub use entry::{NotMade, for_width};
 pub use laws::other_widths_stay;
 pub use line::{NoLine, straight_line};
+pub use own::{code_of, own_entry};

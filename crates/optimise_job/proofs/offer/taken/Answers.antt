@@ -14,5 +14,6 @@ returns-in-Ok-Right-said-clause-taken g c = λ o does.
     let own = rw c.in-Ok-Right.field-0-is at c.in-Ok-Right.ensures in
     let new = rw c.in-Ok-Right-said.field-0-is at c.in-Ok-Right-said.ensures in
     is_shorter c.args.n c.args.room o e (issues c.args.line.now) (microprogram_of found.entry)
-    found.before found.after c.in-Ok-Right-said.field-0-0 c.in_ok-found.ensures.fewer
+    found.before found.after c.in-Ok-Right-said.field-0-0 c.in_ok-found.ensures.fewer c.requires.some
+    c.requires.narrow
     c.in_ok-found.ensures.fits (own o does).2 (new o does) c.in_default.ensures.none

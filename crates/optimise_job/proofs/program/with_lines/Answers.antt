@@ -11,7 +11,8 @@ use Rattle.optimise_job.specs.Promise.{AreAsGood}
 use Rattle.optimise_job.proofs.AsGood.{all_good}
 use Rattle.optimise_job.proofs.Pushed.{HasLegalCode, all_push, line_there, many_outcomes}
 use Rattle.optimise_job.proofs.Pushed.{outcome_more, outcomes_of, room_left, room_more}
-use Rattle.optimise_job.proofs.Pushed.{still_program, taken}
+use Rattle.optimise_job.proofs.Pushed.{still_program}
+use Rattle.width_entry.proofs.OneMore.{taken}
 use Rattle.optimise_job.proofs.program.with_lines.Goals as goal
 
 pub loop-k-preserved : goal.loop-k-preserved

@@ -1,5 +1,5 @@
-use Rattle.width_entry.proofs.Budget.{issues_same}
+use Rattle.width_entry.proofs.Again.{line_stays}
 use Rattle.width_entry.proofs.laws.other_widths_stay.Goals as goal
 
 pub returns : goal.returns
-returns c = issues_same
+returns c = line_stays

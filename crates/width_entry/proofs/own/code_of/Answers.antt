@@ -1,6 +1,6 @@
 use Rattle.std.proofs.Common.{◌++◌, ◌∷◌, [], ap, ◌∙◌, sym}
-use Rattle.optimise_job.proofs.Pushed.{taken}
-use Rattle.optimise_job.proofs.copied.code_of.Goals as goal
+use Rattle.width_entry.proofs.OneMore.{taken}
+use Rattle.width_entry.proofs.own.code_of.Goals as goal
 
 pub loop-at-preserved : goal.loop-at-preserved
 loop-at-preserved g c =

@@ -10,9 +10,13 @@ map_push : (f : Uop → Uop) (xs : List Uop) (x : Uop) → map f (xs ++ x ∷ []
 map_push f [] x = refl
 map_push f (y ∷ xs) x = ap (λ us. f y ∷ us) (map_push f xs x)
 
+-- one more of the first of a list
+pub taken : {X : Type 0} (xs : List X) (k : ℕ) (x : X) → slice_get xs k ≡ Some x
+    → take (k + 1) xs ≡ take k xs ++ x ∷ []
+taken xs k x at =
+    take_more xs k x (slice_get_within xs k x at)
+    ∙ ap (λ y. take k xs ++ y ∷ []) (get_or_from_slice_get xs k x x at)
+
 pub one_more : (f : Uop → Uop) (own : List Uop) (k : ℕ) (u : Uop) → slice_get own k ≡ Some u
     → map f (take (k + 1) own) ≡ map f (take k own) ++ f u ∷ []
-one_more f own k u at =
-    ap (map f) (take_more own k u (slice_get_within own k u at)
-    ∙ ap (λ x. take k own ++ x ∷ []) (get_or_from_slice_get own k u u at))
-    ∙ map_push f (take k own) u
+one_more f own k u at = ap (map f) (taken own k u at) ∙ map_push f (take k own) u

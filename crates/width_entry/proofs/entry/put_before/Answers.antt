@@ -8,8 +8,8 @@ use Rattle.width_entry.specs.Code.{behind, line_code}
 use Rattle.width_entry.proofs.Lines.{line_room_is}
 use Rattle.width_entry.proofs.Made.{made_is, made_legal}
 use Rattle.width_entry.proofs.Named.{none_unnamed}
-use Rattle.width_entry.proofs.entry.for_width.Given.{Over}
-use Rattle.width_entry.proofs.entry.for_width.Goals as goal
+use Rattle.width_entry.proofs.entry.put_before.Given.{Over}
+use Rattle.width_entry.proofs.entry.put_before.Goals as goal
 
 pub returns-then-has_no_room-clause-long : goal.returns-then-has_no_room-clause-long
 returns-then-has_no_room-clause-long g c = λ e.

@@ -1,5 +1,5 @@
 use Rattle.std.proofs.Common.{◌≡◌, take}
-use Rattle.optimise_job.proofs.copied.code_of.Given as goal
+use Rattle.width_entry.proofs.own.code_of.Given as goal
 
 -- the first instructions
 abbrev pub invariant-loop-at : goal.invariant-loop-at
