@@ -1,4 +1,5 @@
 -- Operands and numbers that are checked one after another.
+use Rattle.std.proofs.lemmas.Bool.{and_parts}
 use Rattle.std.proofs.Common.{◌≡◌, ℕ, ◌+◌, ◌<◌, ◌≤◌, nat_lt, Bool, true, false, ◌&&◌, List, [], ◌∷◌, ◌++◌, map}
 use Rattle.std.proofs.Common.{drop, length, get_or, Option, refl, ap}
 use Rattle.std.proofs.Common.{◌∙◌, append_assoc, arith, drop-cons, add-one, length-append}
@@ -27,10 +28,6 @@ pub record ValuesSoFar (all : List (Option ℕ)) (values : List ℕ) (i : ℕ) :
   pub right : list_all is_some all ≡ list_all is_some (drop i all)
   pub items : map number_or_zero all ≡ values ++ map number_or_zero (drop i all)
 
-both : (a b : Bool) → (a && b) ≡ true → (a ≡ true) × (b ≡ true)
-both true b is = (refl, is)
-both false b is = absurd (cc)
-
 -- one more that is right
 pub places_go_on : (all : List Kept) (places new : List Place) (i : ℕ) (d : Kept) (place : Place)
     → PlacesSoFar all places i → i < length all
@@ -41,8 +38,8 @@ places_go_on all places new i d place so_far within right meant same =
     let written = written_view (get_or all i d) in
     let rest : map written_view (drop i all) ≡ written ∷ map written_view (drop (i + 1) all) =
     rw (drop-cons all i d, add-one) refl in
-    let two = both (has_name written) (has_bits written) right in
-    let named = both (has_name written) (list_all has_name (map written_view (drop (i + 1) all)))
+    let two = and_parts (has_name written) (has_bits written) right in
+    let named = and_parts (has_name written) (list_all has_name (map written_view (drop (i + 1) all)))
     (rw rest at so_far.named) in
     record {
       count = grind (arith, length-append, so_far.count, same);
@@ -66,7 +63,7 @@ place_is_wrong all places i d so_far within wrong =
     let written = written_view (get_or all i d) in
     let rest : map written_view (drop i all) ≡ written ∷ map written_view (drop (i + 1) all) =
     rw (drop-cons all i d, add-one) refl in
-    let named = both (has_name written) (list_all has_name (map written_view (drop (i + 1) all)))
+    let named = and_parts (has_name written) (list_all has_name (map written_view (drop (i + 1) all)))
     (rw rest at so_far.named) in
     let no : has_bits written ≡ false = rw named.0 at wrong in
     so_far.right ∙ rw (rest, no) refl

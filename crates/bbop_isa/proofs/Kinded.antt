@@ -1,4 +1,5 @@
 -- What is wrong with a line, kind by kind.
+use Rattle.std.proofs.lemmas.Bool.{false_from_ne_true}
 use Rattle.std.proofs.Common.{◌≡◌, ◌≢◌, ℕ, nat_lt, nat_eq, Bool, true, false, List, [], ◌∷◌}
 use Rattle.std.proofs.Common.{◌≤◌, ◌++◌, map, length, drop, take, Option, Some, None, Result, Ok}
 use Rattle.std.proofs.Common.{Err}
@@ -40,10 +41,6 @@ is_text a b is = (bytes_eq-Decides a b).0 is
 
 is_other : (a b : List ℕ) → bytes_eq a b ≡ false → a ≢ b
 is_other a b is same = let clash : true ≡ false = sym ((bytes_eq-Decides a b).1 same) ∙ is in cc
-
-not_true : (b : Bool) → (b ≡ true → ⊥) → b ≡ false
-not_true true h = absurd (h refl)
-not_true false h = refl
 
 -- the form of operands
 abbrev operands_form : List ℕ → Verb → List Written → List (Option ℕ) → Option Form
@@ -346,7 +343,7 @@ has_found (BbopForm op dst [] count n) h = absurd (omega (arith, h.1))
 has_found (BbopForm op dst (src ∷ srcs) count n) h =
     let few : nat_lt 4 (length srcs) ≡ false = grind (arith, nat_tests, h.2) in
     let other : bytes_eq (codes "bbop_" ++ op) (codes "bbop_trsp_init") ≡ false =
-    not_true (bytes_eq op (codes "trsp_init"))
+    false_from_ne_true (bytes_eq op (codes "trsp_init"))
     (λ is. h.0 ((bytes_eq-Decides op (codes "trsp_init")).0 is)) in
     rw (
       other,

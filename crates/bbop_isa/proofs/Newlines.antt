@@ -1,4 +1,5 @@
 -- Where a text's first newline stands.
+use Rattle.std.proofs.lemmas.Bool.{false_from_ne_true}
 use Rattle.std.proofs.Common.{◌≡◌, ℕ, zero, suc, ◌+◌, ◌<◌, ◌==◌, Bool, true, false, List, ◌∷◌, []}
 use Rattle.std.proofs.Common.{length, get_or, refl, sym, ap, ◌∙◌, arith, Option, Some, None, not}
 use Rattle.std.proofs.Common.{if◌then◌else◌}
@@ -6,10 +7,6 @@ use Rattle.std.specs.List.{prefix_len}
 use Rattle.std.specs.Option.{unwrap_or}
 use Rattle.memchr.specs.Find.{IsFirstByte, is_byte}
 use Rattle.text_lex.specs.Bytes.{is_no_newline}
-
-fails : (b : Bool) → (b ≡ true → ⊥) → b ≡ false
-fails true h = absurd (h refl)
-fails false h = refl
 
 first_newline : (text : List ℕ) (k : ℕ) → k < length text
     → ((j : ℕ) → j < k → (get_or text j 0 == 10) ≡ false) → (get_or text k 0 == 10) ≡ true
@@ -37,7 +34,7 @@ no_newline (b ∷ bs) h =
 -- the bytes before it, or all where there is none
 pub line_found : (text : List ℕ) (found : Option ℕ) → IsFirstByte (is_byte 10) text found
     → unwrap_or found (length text) ≡ prefix_len is_no_newline text
-line_found text None h = no_newline text (λ j l. fails (get_or text j 0 == 10)
+line_found text None h = no_newline text (λ j l. false_from_ne_true (get_or text j 0 == 10)
     (h j (omega arith) l))
 line_found text (Some k) h = first_newline text k h.0.high (λ j l.
-    fails (get_or text j 0 == 10) (h.0.before j (omega arith) l)) h.1
+    false_from_ne_true (get_or text j 0 == 10) (h.0.before j (omega arith) l)) h.1

@@ -1,23 +1,14 @@
 -- Code can be made of a body of a block.
-use Rattle.std.proofs.Common.{◌≡◌, ℕ, zero, suc, ◌+◌, ◌<◌, ◌≤◌, Bool, true, false, List, [], ◌∷◌}
-use Rattle.std.proofs.Common.{◌++◌, map, length, refl, sym, ap, ◌∙◌, subst, arith, ◌⊎◌, inl, inr}
-use Rattle.std.specs.List.{list_all}
-use Rattle.std.proofs.lemmas.Bool.{cases_Bool, and_from}
-use Rattle.mig_graph.specs.Graph.{IsGraph}
-use Rattle.mig_graph.specs.Outputs.{lit_at}
-use Rattle.row_alloc.specs.declared.body.BodyCmd.{BodyCmd}
-use Rattle.op_text.specs.Language.{Block, Visit}
-use Rattle.loop_ir.specs.declared.ir.Sub.{Sub}
-use Rattle.loop_ir.specs.declared.ir.Sub.TheVariants.{Zero}
-use Rattle.loop_ir.specs.declared.ir.Place.{Place}
+use Rattle.block_lower.proofs.Common.{◌≡◌, ℕ, zero, suc, ◌+◌, ◌<◌, ◌≤◌, Bool, true, false, List, []}
+use Rattle.block_lower.proofs.Common.{◌∷◌, ◌++◌, map, length, refl, sym, ap, ◌∙◌, subst, arith, ◌⊎◌}
+use Rattle.block_lower.proofs.Common.{inl, inr, list_all, cases_Bool, and_from, IsGraph, lit_at}
+use Rattle.block_lower.proofs.Common.{BodyCmd, Block, Visit, Sub, Zero, Place, RoundOf, sub_value}
+use Rattle.block_lower.proofs.Common.{Spot, IsOwn, is_state, spot_in, spot_at, nth_place, nth_spot}
+use Rattle.block_lower.proofs.Common.{IsWellFormed, row_count, HasCommands, IsSmall, IsRound}
+use Rattle.block_lower.proofs.Common.{HasValues, Slots, targets_of, IsStatementRow}
 use Rattle.loop_ir.specs.Plain.{Block as Body}
-use Rattle.loop_ir.specs.Loops.{RoundOf, sub_value}
-use Rattle.loop_ir.specs.Spots.{Spot, IsOwn, is_state, spot_in, spot_at, nth_place, nth_spot}
-use Rattle.loop_ir.specs.WellFormed.{IsOneValue, IsWellFormed}
-use Rattle.loop_ir.specs.States.{StatesFit, RowsFirst, row_count}
-use Rattle.loop_ir.specs.Limits.{HasCommands, IsSmall, IsRound, HasValues}
-use Rattle.loop_ir.specs.Statements.{Slots, targets_of}
-use Rattle.loop_ir.specs.Lowered.{IsStatementRow}
+use Rattle.loop_ir.specs.WellFormed.{IsOneValue}
+use Rattle.loop_ir.specs.States.{StatesFit, RowsFirst}
 use Rattle.block_lower.specs.Inputs.{block_inputs}
 use Rattle.block_lower.proofs.Rows.{position, spot-space}
 use Rattle.block_lower.proofs.Facts.{Given, IsNamed, inputs-once, target-written, target-among}

@@ -1,15 +1,13 @@
 -- How many parts and names the expressions of a block have.
-use Rattle.std.proofs.Common.{◌≡◌, ℕ, zero, suc, ◌+◌, ◌*◌, ◌≤◌, Bool, ◌||◌, List, [], ◌∷◌, ◌++◌}
-use Rattle.std.proofs.Common.{map, length, sum, refl, arith, length-append, bytes_eq}
-use Rattle.std.specs.List.{AllByRecursion}
-use Rattle.std.proofs.lemmas.List.Sums.{sum_by-cons}
-use Rattle.op_text.specs.declared.tree.Assign.{Assign}
-use Rattle.op_text.specs.Language.{Term, Nought, Unity, Named, Negation, Conjunction, Disjunction}
-use Rattle.op_text.specs.Language.{Parity, Majority, Equation, term, equation}
+use Rattle.block_lower.proofs.Common.{◌≡◌, ℕ, zero, suc, ◌+◌, ◌*◌, ◌≤◌, Bool, ◌||◌, List, [], ◌∷◌}
+use Rattle.block_lower.proofs.Common.{◌++◌, map, length, refl, arith, length-append, bytes_eq}
+use Rattle.block_lower.proofs.Common.{AllByRecursion, sum_by-cons, Assign, Term, Nought, Unity}
+use Rattle.block_lower.proofs.Common.{Named, Negation, Conjunction, Disjunction, Parity, Majority}
+use Rattle.block_lower.proofs.Common.{Equation, term, equation, TermMeets, all_parts, all_weights}
+use Rattle.block_lower.proofs.Common.{term_names, equation_names, LetsMeet}
+use Rattle.std.proofs.Common.{sum}
 use Rattle.op_text.specs.Scratch.{term_weight}
-use Rattle.op_text.specs.Spelling.{TermMeets}
-use Rattle.aoi_graph.specs.Blocks.{parts, all_parts, all_weights}
-use Rattle.loop_ir.specs.Statements.{term_names, equation_names, LetsMeet}
+use Rattle.aoi_graph.specs.Blocks.{parts}
 
 pub parts-most : (readable : List ℕ → Bool) (depth left : ℕ) (t : Term) → depth + left ≡ 32
     → TermMeets readable depth t → parts t ≤ (1 + 2 * term_weight t) * (left + 1)

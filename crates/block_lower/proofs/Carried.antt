@@ -1,30 +1,18 @@
 -- The commands that a body carries do it, and are few.
-use Rattle.std.proofs.Common.{◌≡◌, ℕ, ◌+◌, ◌*◌, ◌<◌, ◌≤◌, Bool, true, false, cond, not, List, []}
-use Rattle.std.proofs.Common.{◌∷◌, length, sym, ap, ◌∙◌, subst, inl, inr, arith}
-use Rattle.std.specs.Prelude.{◌==◌, ◌&&◌, sum_by}
-use Rattle.std.proofs.lemmas.Bool.{and_parts, and_from, eqb-true, cases_Bool}
-use Rattle.std.proofs.lemmas.List.Sums.{sum_by-cons}
-use Rattle.mig_graph.specs.declared.Lit.{Lit}
+use Rattle.block_lower.proofs.Common.{◌≡◌, ℕ, ◌+◌, ◌*◌, ◌<◌, ◌≤◌, Bool, true, false, cond, not}
+use Rattle.block_lower.proofs.Common.{List, [], ◌∷◌, length, sym, ap, ◌∙◌, subst, inl, inr, arith}
+use Rattle.block_lower.proofs.Common.{◌==◌, ◌&&◌, sum_by, and_parts, and_from, eqb-true, cases_Bool}
+use Rattle.block_lower.proofs.Common.{sum_by-cons, Lit, IsGraph, size_of, lit_at, OutRow, out_at}
+use Rattle.block_lower.proofs.Common.{FitBody, DoesHeld, Place, AreRows, enters, leaves}
+use Rattle.block_lower.proofs.Common.{IsWellFormed, body_cost, is_copy, plain_cost, HasCommands}
+use Rattle.block_lower.proofs.Common.{one-rows, HasRows, all_count}
 use Rattle.mig_graph.specs.Literals.{is_complemented}
-use Rattle.mig_graph.specs.Graph.{IsGraph, size_of}
-use Rattle.mig_graph.specs.Outputs.{lit_at}
-use Rattle.row_alloc.specs.declared.body.OutRow.{OutRow}
-use Rattle.row_alloc.specs.Rows.{out_at}
-use Rattle.row_alloc.specs.Body.{FitBody}
 use Rattle.row_alloc.specs.Length.{is_direct, output_length, plain_length}
-use Rattle.row_alloc.specs.Held.{DoesHeld}
 use Rattle.row_alloc.proofs.Plainly.{plainly}
-use Rattle.loop_ir.specs.declared.ir.Place.{Place}
 use Rattle.loop_ir.specs.Plain.{Block as Body}
-use Rattle.loop_ir.specs.Outputs.{AreRows, IsOuts}
-use Rattle.loop_ir.specs.States.{enters, leaves}
-use Rattle.loop_ir.specs.WellFormed.{IsWellFormed}
-use Rattle.loop_ir.specs.Costs.{body_cost, is_copy, plain_cost}
-use Rattle.loop_ir.specs.Limits.{HasCommands}
-use Rattle.loop_ir.proofs.Outs.{one-rows}
+use Rattle.loop_ir.specs.Outputs.{IsOuts}
 use Rattle.loop_laws.proofs.Costing.{rowed-plain}
-use Rattle.loop_laws.proofs.NoStates.{HasRows}
-use Rattle.loop_laws.proofs.Rowed.{have_rows, all_count, no_enters, no_leaves}
+use Rattle.loop_laws.proofs.Rowed.{have_rows, no_enters, no_leaves}
 use Rattle.block_lower.specs.Choice.{HasFound, AreFor}
 
 rows-few : (rows : List OutRow) → sum_by output_length rows ≤ 3 * length rows

@@ -1,23 +1,12 @@
 -- The one command of a constant does it.
-use Rattle.std.proofs.Common.{◌≡◌, ℕ, zero, suc, ◌<◌, Bool, true, false, cond, List, [], ◌∷◌}
-use Rattle.std.proofs.Common.{Some, None, refl, sym, subst, arith}
-use Rattle.mig_graph.specs.declared.Lit.{Lit}
-use Rattle.mig_graph.specs.Graph.{Graph}
-use Rattle.mig_graph.specs.Outputs.{lit_at}
+use Rattle.block_lower.proofs.Common.{◌≡◌, ℕ, zero, suc, ◌<◌, Bool, true, false, cond, List, []}
+use Rattle.block_lower.proofs.Common.{◌∷◌, Some, None, refl, sym, subst, arith, Lit, Graph, lit_at}
+use Rattle.block_lower.proofs.Common.{BodyCmd, OutRow, out_at, DoesHeld, Place, is_state, AreRows}
+use Rattle.block_lower.proofs.Common.{row_count, leaves, plain_cost, HasCommands, one-rows}
 use Rattle.row_alloc.specs.declared.body.BodyRef.TheVariants.{C, Out}
-use Rattle.row_alloc.specs.declared.body.BodyCmd.{BodyCmd}
 use Rattle.row_alloc.specs.declared.body.BodyCmd.TheVariants.{Aap}
-use Rattle.row_alloc.specs.declared.body.OutRow.{OutRow}
-use Rattle.row_alloc.specs.Rows.{out_at}
-use Rattle.row_alloc.specs.Held.{DoesHeld, IsHeldChecked}
+use Rattle.row_alloc.specs.Held.{IsHeldChecked}
 use Rattle.row_alloc.proofs.HeldChecked.{held-does}
-use Rattle.loop_ir.specs.declared.ir.Place.{Place}
-use Rattle.loop_ir.specs.Spots.{is_state}
-use Rattle.loop_ir.specs.Outputs.{AreRows}
-use Rattle.loop_ir.specs.States.{row_count, leaves}
-use Rattle.loop_ir.specs.Costs.{plain_cost}
-use Rattle.loop_ir.specs.Limits.{HasCommands}
-use Rattle.loop_ir.proofs.Outs.{one-rows}
 use Rattle.block_lower.specs.Form.{constant}
 use Rattle.block_lower.proofs.Carried.{fit}
 use Rattle.block_lower.proofs.Bodies.{empty-graph, only, lone-well}

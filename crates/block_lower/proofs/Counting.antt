@@ -1,14 +1,9 @@
 -- The offers that are counted, one after another, and the fewest commands of them.
-use Rattle.std.proofs.Common.{◌≡◌, ℕ, ◌+◌, ◌<◌, ◌≤◌, List, [], ◌∷◌, ◌++◌, length, map, take, arith}
-use Rattle.std.proofs.Common.{inl, inr, refl, Option, Some, None}
-use Rattle.std.specs.Prelude.{IfNone, slice_index_or}
-use Rattle.std.specs.List.{AllByRecursion}
+use Rattle.block_lower.proofs.Common.{◌≡◌, ℕ, ◌+◌, ◌<◌, ◌≤◌, List, [], ◌∷◌, ◌++◌, length, map, take}
+use Rattle.block_lower.proofs.Common.{arith, inl, inr, refl, Option, Some, None, IfNone}
+use Rattle.block_lower.proofs.Common.{slice_index_or, AllByRecursion, Lit, Graph, BodyCmd, Place}
 use Rattle.std.proofs.lemmas.List.{map_more}
-use Rattle.mig_graph.specs.declared.Lit.{Lit}
-use Rattle.mig_graph.specs.Graph.{Graph}
 use Rattle.mig_rewrite.specs.declared.sketch.Sketch.{Sketch}
-use Rattle.row_alloc.specs.declared.body.BodyCmd.{BodyCmd}
-use Rattle.loop_ir.specs.declared.ir.Place.{Place}
 use Rattle.block_lower.specs.declared.choice.Choice.{Choice}
 use Rattle.block_lower.specs.declared.rounds.Tried.{Tried}
 use Rattle.block_lower.specs.Choice.{AreCounted, AreNoFewer, HasFound, IsCounted, IsDropped}

@@ -1,19 +1,20 @@
 -- The rounds of a start, of a body at each position but the top one, and of another body there.
-use Rattle.std.proofs.Common.{◌≡◌, ℕ, zero, suc, ◌+◌, ◌*◌, ◌<◌, ◌≤◌, Bool, true, false, cond, List}
-use Rattle.std.proofs.Common.{[], ◌∷◌, refl, ap, ◌∙◌, append-nil, arith}
-use Rattle.std.specs.Prelude.{◌==◌, nat_le, sum_by}
-use Rattle.std.specs.List.{AllByRecursion, list_all, range_with_len}
-use Rattle.std.proofs.lemmas.Bool.{and_from, le-leb, ne_eqb}
-use Rattle.std.proofs.lemmas.List.Sums.{sum_by-cons}
+use Rattle.block_lower.proofs.Common.{◌≡◌, ℕ, zero, suc, ◌+◌, ◌*◌, ◌<◌, ◌≤◌, Bool, true, false}
+use Rattle.block_lower.proofs.Common.{cond, List, [], ◌∷◌, refl, ap, ◌∙◌, append-nil, arith, ◌==◌}
+use Rattle.block_lower.proofs.Common.{sum_by, AllByRecursion, list_all, range_with_len, and_from}
+use Rattle.block_lower.proofs.Common.{ne_eqb, sum_by-cons, FlowOf, RoundOf, flow_rounds, chained}
+use Rattle.block_lower.proofs.Common.{left_by}
+use Rattle.std.specs.Prelude.{nat_le}
+use Rattle.std.proofs.lemmas.Bool.{le-leb}
 use Rattle.bit_rows.specs.declared.TheConstants.{WIDTH_MAX}
 use Rattle.loop_ir.specs.declared.ir.Move.TheVariants.{AddI}
 use Rattle.loop_ir.specs.Plain.{Block}
-use Rattle.loop_ir.specs.Flows.{FlowOf, RunOf, join, cycle, run, acts, zeros}
+use Rattle.loop_ir.specs.Flows.{RunOf, join, cycle, run, acts, zeros}
 use Rattle.loop_ir.specs.Flows.FlowOf.{End, Do, Put, If}
 use Rattle.loop_ir.specs.Flows.TurnsOf.{Last}
 use Rattle.loop_ir.specs.FlowTests.{is_event_safe, widths}
-use Rattle.loop_ir.specs.Loops.{RoundOf, rounds_in, flow_rounds}
-use Rattle.loop_ir.specs.Chains.{chained, finds, left_by}
+use Rattle.loop_ir.specs.Loops.{rounds_in}
+use Rattle.loop_ir.specs.Chains.{finds}
 use Rattle.block_lower.specs.Held.{each_last}
 
 -- the registers at a position that has so many after it

@@ -1,19 +1,15 @@
 -- What rows hold, by names and by bits.
-use Rattle.std.proofs.Common.{◌≡◌, ℕ, ◌+◌, ◌<◌, Bool, false, List, [], ◌∷◌, map, length, fold}
-use Rattle.std.proofs.Common.{slice_index_or, get_or, refl, sym, ap, ◌∙◌, subst, arith, inl, inr}
-use Rattle.std.specs.List.{range_with_len}
-use Rattle.std.proofs.lemmas.List.{ext_get_or, get_or-map, length-map}
+use Rattle.block_lower.proofs.Common.{◌≡◌, ℕ, ◌+◌, ◌<◌, Bool, false, List, [], ◌∷◌, map, length}
+use Rattle.block_lower.proofs.Common.{fold, get_or, refl, sym, ap, ◌∙◌, subst, arith, inl, inr}
+use Rattle.block_lower.proofs.Common.{range_with_len, length-map, Kind, Word, Bit, Block, Visit}
+use Rattle.block_lower.proofs.Common.{NameValue, bit_read, width, visited, with_states, with_blanks}
+use Rattle.block_lower.proofs.Common.{state_names, word_names, StepOf, all_rounds, Spots}
+use Rattle.block_lower.proofs.Common.{after_rounds, Slots, Does}
+use Rattle.std.proofs.Common.{slice_index_or}
+use Rattle.std.proofs.lemmas.List.{ext_get_or, get_or-map}
 use Rattle.std.proofs.lemmas.List.FromFn.{length-range_with_len, get_or-range_with_len}
-use Rattle.op_text.specs.declared.tree.Kind.{Kind}
-use Rattle.op_text.specs.declared.tree.Kind.TheVariants.{Word, Bit}
-use Rattle.op_text.specs.Language.{Block, Visit}
-use Rattle.op_text.specs.Meaning.{NameValue, bit_read, width, visited, with_states, with_blanks}
-use Rattle.op_text.specs.Scratch.{state_names, word_names}
-use Rattle.loop_ir.specs.Plain.{Block as Body, StepOf}
-use Rattle.loop_ir.specs.Loops.{all_rounds}
-use Rattle.loop_ir.specs.Spots.{Spots, after_rounds}
-use Rattle.loop_ir.specs.Statements.{Slots}
-use Rattle.loop_ir.specs.Lowered.{slot_bits, HoldsAt, Holds, Does}
+use Rattle.loop_ir.specs.Plain.{Block as Body}
+use Rattle.loop_ir.specs.Lowered.{slot_bits, HoldsAt, Holds}
 use Rattle.block_lower.proofs.Names.{among-either}
 use Rattle.block_lower.proofs.Rows.{slot_or, row_of, position, position-below, position-twice}
 use Rattle.block_lower.proofs.Rows.{row-below}

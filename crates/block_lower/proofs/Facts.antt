@@ -1,20 +1,12 @@
 -- The names of a block and their places.
-use Rattle.std.proofs.Common.{◌≡◌, ℕ, zero, suc, ◌<◌, true, false, not, List, [], ◌∷◌, Some, length}
-use Rattle.std.proofs.Common.{refl, sym, ap, ◌∙◌, subst, arith, ◌⊎◌, inl, inr}
-use Rattle.std.proofs.lemmas.Bool.{cases_Bool, not_from_false, not-true}
-use Rattle.std.proofs.lemmas.List.{length-map}
-use Rattle.op_text.specs.declared.tree.Kind.{Kind}
-use Rattle.op_text.specs.declared.tree.Kind.TheVariants.{Word, Bit}
-use Rattle.op_text.specs.Language.{Equation, Block, Visit}
-use Rattle.op_text.specs.Meaning.{width}
-use Rattle.op_text.specs.Rules.{is_among}
-use Rattle.op_text.specs.Scratch.{state_names, word_names}
-use Rattle.loop_ir.specs.declared.names.Slot.{Slot}
-use Rattle.loop_ir.specs.Spots.{IsOwn}
-use Rattle.loop_ir.specs.Statements.{Slots, HasKind, holds_kind, BlockMeets, IsPlaced, AreDistinct}
-use Rattle.loop_ir.specs.Statements.{block_reads, read_names, written_names, statement_names}
-use Rattle.loop_ir.specs.Statements.{targets_of}
-use Rattle.loop_ir.specs.Lowered.{slot_spot, IsRowOf}
+use Rattle.block_lower.proofs.Common.{◌≡◌, ℕ, zero, suc, ◌<◌, true, false, not, List, [], ◌∷◌, Some}
+use Rattle.block_lower.proofs.Common.{length, refl, sym, ap, ◌∙◌, subst, arith, ◌⊎◌, inl, inr}
+use Rattle.block_lower.proofs.Common.{cases_Bool, length-map, Kind, Word, Bit, Equation, Block}
+use Rattle.block_lower.proofs.Common.{Visit, width, is_among, state_names, word_names, Slot, IsOwn}
+use Rattle.block_lower.proofs.Common.{Slots, holds_kind, BlockMeets, AreDistinct, written_names}
+use Rattle.block_lower.proofs.Common.{statement_names, targets_of, slot_spot, IsRowOf}
+use Rattle.std.proofs.lemmas.Bool.{not_from_false, not-true}
+use Rattle.loop_ir.specs.Statements.{HasKind, IsPlaced, block_reads, read_names}
 use Rattle.block_lower.specs.Inputs.{block_inputs, name_at}
 use Rattle.block_lower.proofs.Names.{name-true, among-left, among-right, among-kept, among-filtered}
 use Rattle.block_lower.proofs.Names.{among-at, among-is, AreOnce}

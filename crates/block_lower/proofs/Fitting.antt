@@ -1,15 +1,8 @@
 -- A graph of which no body is made has none that may stand for it and of which one is made.
-use Rattle.std.proofs.Common.{◌≡◌, ℕ, zero, suc, ◌<◌, ◌≤◌, List, [], ◌∷◌, length, refl, sym, ap, ◌∙◌}
-use Rattle.std.proofs.Common.{subst, arith, inl, inr, Some}
-use Rattle.mig_graph.specs.declared.Lit.{Lit}
-use Rattle.mig_graph.specs.Graph.{Graph, size_of}
-use Rattle.mig_graph.specs.Outputs.{lit_at, AreNamed, KeepsOutputs}
-use Rattle.row_alloc.specs.declared.body.BodyCmd.{BodyCmd}
-use Rattle.row_alloc.specs.declared.body.OutRow.{OutRow}
-use Rattle.row_alloc.specs.Rows.{out_at}
-use Rattle.row_alloc.specs.Body.{FitBody}
-use Rattle.loop_ir.specs.declared.ir.Place.{Place}
-use Rattle.loop_ir.specs.Outputs.{AreRows}
+use Rattle.block_lower.proofs.Common.{◌≡◌, ℕ, zero, suc, ◌<◌, ◌≤◌, List, [], ◌∷◌, length, refl, sym}
+use Rattle.block_lower.proofs.Common.{ap, ◌∙◌, subst, arith, inl, inr, Some, Lit, Graph, size_of}
+use Rattle.block_lower.proofs.Common.{lit_at, AreNamed, KeepsOutputs, BodyCmd, OutRow, out_at}
+use Rattle.block_lower.proofs.Common.{FitBody, Place, AreRows}
 use Rattle.block_lower.specs.Choice.{AreFor, IsUnfit}
 
 -- the same rows for other literals

@@ -1,15 +1,13 @@
 -- What a block's visits do to the names.
-use Rattle.std.proofs.Common.{◌≡◌, ℕ, zero, suc, ◌+◌, ◌-◌, ◌<◌, Bool, true, false, List, [], ◌∷◌}
-use Rattle.std.proofs.Common.{◌++◌, map, length, replicate, bytes_eq, refl, sym, ap, ◌∙◌, arith}
-use Rattle.std.proofs.Common.{◌⊎◌, inl, inr, slice_get, Some}
-use Rattle.std.proofs.lemmas.Bool.{or_cases, or_parts, cond-true, cond-false}
-use Rattle.op_text.specs.declared.tree.Kind.TheVariants.{Word, Bit}
-use Rattle.op_text.specs.declared.tree.State.{State}
-use Rattle.op_text.specs.Language.{Equation}
-use Rattle.op_text.specs.Meaning.{NameValue, term_bit, changed, bit_written, assigned, with_blanks}
-use Rattle.op_text.specs.Meaning.{with_states, upwards, downwards, positions}
-use Rattle.op_text.specs.Rules.{is_among}
-use Rattle.loop_ir.specs.Statements.{AreDistinct, targets_of}
+use Rattle.block_lower.proofs.Common.{◌≡◌, ℕ, zero, suc, ◌+◌, ◌-◌, ◌<◌, Bool, true, false, List, []}
+use Rattle.block_lower.proofs.Common.{◌∷◌, ◌++◌, map, length, bytes_eq, refl, sym, ap, ◌∙◌, arith}
+use Rattle.block_lower.proofs.Common.{◌⊎◌, inl, inr, slice_get, Some, or_cases, cond-true}
+use Rattle.block_lower.proofs.Common.{cond-false, Word, Bit, State, Equation, NameValue, term_bit}
+use Rattle.block_lower.proofs.Common.{changed, bit_written, with_blanks, with_states, is_among}
+use Rattle.block_lower.proofs.Common.{AreDistinct, targets_of}
+use Rattle.std.proofs.Common.{replicate}
+use Rattle.std.proofs.lemmas.Bool.{or_parts}
+use Rattle.op_text.specs.Meaning.{assigned, upwards, downwards, positions}
 use Rattle.block_lower.specs.Inputs.{name_at}
 use Rattle.block_lower.proofs.Names.{name-true, name-same, name-other, cases_name, among-is}
 use Rattle.block_lower.proofs.Rows.{position}

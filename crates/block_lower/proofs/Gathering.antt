@@ -1,12 +1,12 @@
 -- Names gathered once each, and their numbers.
-use Rattle.std.proofs.Common.{◌≡◌, ◌≢◌, ℕ, ◌+◌, ◌≤◌, true, false, cond, List, [], ◌∷◌, ◌++◌, length}
-use Rattle.std.proofs.Common.{sym, ap, ◌∙◌, subst, arith, ◌⊎◌, inl, inr, bytes_eq, Some, is_some}
-use Rattle.std.proofs.lemmas.Bool.{or_cases, or_left, or_right, cases_Bool, cases_lt, cond-true}
-use Rattle.std.proofs.lemmas.Bool.{cond-false, cond_both, false_from_ne_true}
+use Rattle.block_lower.proofs.Common.{◌≡◌, ℕ, ◌+◌, ◌≤◌, true, false, cond, List, [], ◌∷◌, ◌++◌}
+use Rattle.block_lower.proofs.Common.{length, sym, ap, ◌∙◌, subst, arith, ◌⊎◌, inl, inr, bytes_eq}
+use Rattle.block_lower.proofs.Common.{Some, is_some, or_cases, or_left, or_right, cases_Bool}
+use Rattle.block_lower.proofs.Common.{cond-true, cond-false, false_from_ne_true, get, is_among}
+use Rattle.block_lower.proofs.Common.{Numbers}
+use Rattle.std.proofs.Common.{◌≢◌}
+use Rattle.std.proofs.lemmas.Bool.{cases_lt, cond_both}
 use Rattle.std.proofs.lemmas.List.{get_or_append_left, get_or_push, length_push}
-use Rattle.indexmap.specs.IndexMap.{get}
-use Rattle.op_text.specs.Rules.{is_among}
-use Rattle.aoi_graph.specs.Blocks.{Numbers}
 use Rattle.block_lower.specs.Inputs.{gathered, AreNumbered}
 use Rattle.block_lower.proofs.Names.{name-true, name-same, cases_name, among-is, among-left}
 use Rattle.block_lower.proofs.Names.{among-right, among-either, among-here, among-one, AreOnce}

@@ -1,44 +1,30 @@
 -- The loop of a block with its one state in cells does the block, within its ceilings.
-use Rattle.std.proofs.Common.{◌≡◌, ℕ, zero, suc, ◌+◌, ◌*◌, ◌<◌, ◌≤◌, Bool, true, false, cond, List}
-use Rattle.std.proofs.Common.{[], ◌∷◌, map, length, Option, Some, None, refl, sym, ap, ◌∙◌}
-use Rattle.std.proofs.Common.{subst, arith, append-nil, fold, ◌⊎◌, inl, inr}
-use Rattle.std.specs.Prelude.{◌==◌, ◌&&◌}
-use Rattle.std.specs.List.{AllByRecursion, list_any, list_all}
-use Rattle.std.proofs.lemmas.Bool.{cases_Bool, and_parts, and_from, or_left, eqb-true, eq-eqb}
-use Rattle.std.proofs.lemmas.Bool.{ne_eqb}
-use Rattle.std.proofs.lemmas.List.Sums.{sum_by-cons}
-use Rattle.std.proofs.Math.Nat.{mul-le-mul_left}
-use Rattle.mig_graph.specs.declared.Lit.{Lit}
-use Rattle.op_text.specs.declared.tree.Kind.{Kind}
-use Rattle.op_text.specs.declared.tree.Kind.TheVariants.{Word, Bit}
-use Rattle.op_text.specs.declared.tree.State.{State}
-use Rattle.op_text.specs.Language.{Block, Visit}
-use Rattle.op_text.specs.Meaning.{NameValue, visited, with_states, with_blanks}
-use Rattle.op_text.specs.Rules.{is_among}
-use Rattle.op_text.specs.Scratch.{state_names}
-use Rattle.loop_ir.specs.declared.ir.Sub.{Sub}
-use Rattle.loop_ir.specs.declared.ir.Sub.TheVariants.{Zero}
-use Rattle.loop_ir.specs.declared.ir.Place.{Place}
-use Rattle.loop_ir.specs.declared.names.Slot.{Slot}
-use Rattle.loop_ir.specs.Plain.{Block as Body, StepOf}
+use Rattle.block_lower.proofs.Common.{◌≡◌, ℕ, zero, suc, ◌+◌, ◌*◌, ◌<◌, ◌≤◌, Bool, true, false}
+use Rattle.block_lower.proofs.Common.{cond, List, [], ◌∷◌, map, length, Option, Some, None, refl}
+use Rattle.block_lower.proofs.Common.{sym, ap, ◌∙◌, subst, arith, append-nil, fold, ◌⊎◌, inl, inr}
+use Rattle.block_lower.proofs.Common.{◌==◌, ◌&&◌, AllByRecursion, list_all, cases_Bool, and_parts}
+use Rattle.block_lower.proofs.Common.{and_from, or_left, eqb-true, ne_eqb, sum_by-cons}
+use Rattle.block_lower.proofs.Common.{mul-le-mul_left, Lit, Kind, Word, Bit, State, Block, Visit}
+use Rattle.block_lower.proofs.Common.{NameValue, visited, with_states, with_blanks, is_among}
+use Rattle.block_lower.proofs.Common.{state_names, Sub, Zero, Place, Slot, StepOf, FlowOf, RoundOf}
+use Rattle.block_lower.proofs.Common.{all_rounds, flow_rounds, sub_value, Spot, Spots, is_state}
+use Rattle.block_lower.proofs.Common.{spot_in, spot_at, after_round, after_rounds, set_spot}
+use Rattle.block_lower.proofs.Common.{IsWellFormed, row_count, chained, left_by, turn_cost}
+use Rattle.block_lower.proofs.Common.{plain_cost, is_copy, rounds_cost, step_cost, step_bodies}
+use Rattle.block_lower.proofs.Common.{HasCommands, IsSmall, IsRound, CanCompile, HasValues}
+use Rattle.block_lower.proofs.Common.{step_stands, Slots, targets_of, IsStatementRow, IsLowered}
+use Rattle.block_lower.proofs.Common.{Does, all_count, rounds_sum}
+use Rattle.std.specs.List.{list_any}
+use Rattle.std.proofs.lemmas.Bool.{eq-eqb}
+use Rattle.loop_ir.specs.Plain.{Block as Body}
 use Rattle.loop_ir.specs.Plain.StepOf.{Flowed}
-use Rattle.loop_ir.specs.Flows.{FlowOf, AllFlow, all_flow}
+use Rattle.loop_ir.specs.Flows.{AllFlow, all_flow}
 use Rattle.loop_ir.specs.FlowTests.{names, counts, nests, runs_safely}
-use Rattle.loop_ir.specs.Loops.{RoundOf, all_rounds, flow_rounds, sub_value}
-use Rattle.loop_ir.specs.Spots.{Spot, Spots, is_state, spot_in, spot_at, after_round, after_rounds}
-use Rattle.loop_ir.specs.Spots.{set_spot}
-use Rattle.loop_ir.specs.WellFormed.{IsWellFormed}
-use Rattle.loop_ir.specs.States.{row_count, row_outs}
-use Rattle.loop_ir.specs.Chains.{states_in, is_alive, chained, left_by, flow_finds}
-use Rattle.loop_ir.specs.Costs.{turn_cost, plain_cost, is_copy, sub_code, rounds_cost}
-use Rattle.loop_ir.specs.Costs.{step_cost, step_bodies}
-use Rattle.loop_ir.specs.Limits.{HasCommands, IsSmall, IsRound, CanCompile, HasValues}
-use Rattle.loop_ir.specs.Limits.{stays_in_registers, is_in_register, flow_stands, step_stands}
-use Rattle.loop_ir.specs.Statements.{Slots, targets_of}
-use Rattle.loop_ir.specs.Lowered.{IsStatementRow, IsLowered, Does}
-use Rattle.loop_laws.proofs.Rowed.{all_count}
+use Rattle.loop_ir.specs.States.{row_outs}
+use Rattle.loop_ir.specs.Chains.{states_in, is_alive, flow_finds}
+use Rattle.loop_ir.specs.Costs.{sub_code}
+use Rattle.loop_ir.specs.Limits.{stays_in_registers, is_in_register, flow_stands}
 use Rattle.loop_laws.proofs.Same.{spot_true, spot_same}
-use Rattle.loop_laws.proofs.Summed.{rounds_sum}
 use Rattle.block_lower.specs.Inputs.{block_inputs}
 use Rattle.block_lower.specs.declared.home.Home.{Home}
 use Rattle.block_lower.specs.Held.{HeldCommands, CarriesRight, IsHeldOne, cell_place, same_place}

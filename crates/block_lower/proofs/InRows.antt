@@ -1,33 +1,24 @@
 -- The loop of a block with its states in rows does the block, within its ceilings.
-use Rattle.std.proofs.Common.{◌≡◌, ℕ, zero, suc, ◌+◌, ◌*◌, ◌<◌, ◌≤◌, Bool, true, false, List, []}
-use Rattle.std.proofs.Common.{◌∷◌, ◌++◌, map, length, Option, Some, None, refl, sym, ap}
-use Rattle.std.proofs.Common.{◌∙◌, subst, arith, ◌⊎◌, inl, inr}
-use Rattle.std.specs.List.{AllByRecursion, list_all}
-use Rattle.std.proofs.lemmas.Bool.{and_from, or_from}
+use Rattle.block_lower.proofs.Common.{◌≡◌, ℕ, zero, suc, ◌+◌, ◌*◌, ◌<◌, ◌≤◌, Bool, true, false}
+use Rattle.block_lower.proofs.Common.{List, [], ◌∷◌, ◌++◌, map, length, Option, Some, None, refl}
+use Rattle.block_lower.proofs.Common.{sym, ap, ◌∙◌, subst, arith, ◌⊎◌, inl, inr, AllByRecursion}
+use Rattle.block_lower.proofs.Common.{list_all, and_from, sum_by-cons, mul-le-mul_left, Kind, Word}
+use Rattle.block_lower.proofs.Common.{Bit, State, Block, Visit, Zero, Place, Slot, StepOf, RoundOf}
+use Rattle.block_lower.proofs.Common.{round_at, rounds, all_rounds, sub_value, Spot, IsOwn}
+use Rattle.block_lower.proofs.Common.{is_state, after_rounds, IsWellFormed, body_cost, turn_cost}
+use Rattle.block_lower.proofs.Common.{step_cost, step_bodies, rounds_cost, IsSmall, step_stands}
+use Rattle.block_lower.proofs.Common.{IsRound, CanCompile, Slots, IsStatementRow, IsLowered}
+use Rattle.block_lower.proofs.Common.{rounds_sum, HasRows}
+use Rattle.std.proofs.lemmas.Bool.{or_from}
 use Rattle.std.proofs.lemmas.List.{append-nil}
-use Rattle.std.proofs.lemmas.List.Sums.{sum_by-cons}
-use Rattle.std.proofs.Math.Nat.{mul-le-mul_left}
-use Rattle.op_text.specs.declared.tree.Kind.{Kind}
-use Rattle.op_text.specs.declared.tree.Kind.TheVariants.{Word, Bit}
-use Rattle.op_text.specs.declared.tree.State.{State}
-use Rattle.op_text.specs.Language.{Block, Visit}
 use Rattle.op_text.specs.Scratch.{block_weight, block_ceiling}
-use Rattle.loop_ir.specs.declared.ir.Sub.TheVariants.{Zero}
-use Rattle.loop_ir.specs.declared.ir.Place.{Place}
-use Rattle.loop_ir.specs.declared.names.Slot.{Slot}
-use Rattle.loop_ir.specs.Plain.{Block as Body, StepOf, AllParts}
+use Rattle.loop_ir.specs.Plain.{Block as Body, AllParts}
 use Rattle.loop_ir.specs.Plain.StepOf.{Single, Along}
-use Rattle.loop_ir.specs.Loops.{RoundOf, round_at, rounds, all_rounds, sub_value}
-use Rattle.loop_ir.specs.Spots.{Spot, IsOwn, is_state, after_rounds}
-use Rattle.loop_ir.specs.WellFormed.{IsWellFormed, AreWellFormed}
-use Rattle.loop_ir.specs.Costs.{body_cost, turn_cost, step_cost, code_cost}
-use Rattle.loop_ir.specs.Costs.{step_bodies, bodies, rounds_cost}
-use Rattle.loop_ir.specs.Limits.{IsSmall, may_stand, step_stands, IsRound, StepHasValues}
-use Rattle.loop_ir.specs.Limits.{CanCompile}
-use Rattle.loop_ir.specs.Statements.{Slots}
-use Rattle.loop_ir.specs.Lowered.{IsStatementRow, IsLowered}
-use Rattle.loop_laws.proofs.Summed.{rounds_sum, steps_sum, sum_is}
-use Rattle.loop_laws.proofs.NoStates.{HasRows, has_rows, rows_fit, no_state_sought}
+use Rattle.loop_ir.specs.WellFormed.{AreWellFormed}
+use Rattle.loop_ir.specs.Costs.{code_cost, bodies}
+use Rattle.loop_ir.specs.Limits.{may_stand, StepHasValues}
+use Rattle.loop_laws.proofs.Summed.{steps_sum, sum_is}
+use Rattle.loop_laws.proofs.NoStates.{has_rows, rows_fit, no_state_sought}
 use Rattle.block_lower.specs.Inputs.{block_inputs}
 use Rattle.block_lower.specs.Choice.{HasFound, AreFor}
 use Rattle.block_lower.specs.Form.{kind_sub, place_of, constant, start, row_steps, IsBlockBody}

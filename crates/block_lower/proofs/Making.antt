@@ -1,26 +1,20 @@
 -- The graph of a block is made for its inputs.
-use Rattle.std.proofs.Common.{◌≡◌, ℕ, zero, suc, ◌+◌, ◌^◌, ◌<◌, ◌≤◌, Bool, true, not, List, [], ◌∷◌}
-use Rattle.std.proofs.Common.{◌++◌, map, filter, length, refl, sym, ap, ◌∙◌, arith, Some, is_some}
-use Rattle.std.proofs.Common.{slice_get, slice_index, length-append}
-use Rattle.std.proofs.lemmas.Bool.{and_parts}
-use Rattle.std.proofs.lemmas.List.{length-map}
-use Rattle.std.proofs.lemmas.Option.{slice_get_within}
+use Rattle.block_lower.proofs.Common.{◌≡◌, ℕ, zero, suc, ◌+◌, ◌<◌, ◌≤◌, Bool, true, not, List, []}
+use Rattle.block_lower.proofs.Common.{◌∷◌, ◌++◌, map, filter, length, refl, sym, ap, ◌∙◌, arith}
+use Rattle.block_lower.proofs.Common.{Some, is_some, slice_get, length-append, and_parts}
+use Rattle.block_lower.proofs.Common.{length-map, slice_get_within, State, Assign, Equation}
+use Rattle.block_lower.proofs.Common.{equation, term_bit, with_lets, is_among, Numbers, all_parts}
+use Rattle.block_lower.proofs.Common.{all_weights, BlockReads, Lit, Graph, lit_at, KeepsOutputs}
+use Rattle.block_lower.proofs.Common.{Slots, BlockMeets, equation_names, targets_of}
+use Rattle.std.proofs.Common.{◌^◌, slice_index}
 use Rattle.std.proofs.lemmas.List.Sums.{length-filter, count_by-le-length}
-use Rattle.op_text.specs.declared.tree.State.{State}
-use Rattle.op_text.specs.declared.tree.Assign.{Assign}
-use Rattle.op_text.specs.Language.{Equation, equation}
-use Rattle.op_text.specs.Meaning.{term_bit, with_lets}
-use Rattle.op_text.specs.Rules.{is_among}
 use Rattle.aoi_graph.specs.declared.AoiNode.{AoiNode}
 use Rattle.aoi_graph.specs.Gates.{aoi_at, aoi_values}
-use Rattle.aoi_graph.specs.Blocks.{Numbers, all_parts, all_weights, AreHeld, NamesInputs}
-use Rattle.aoi_graph.specs.Blocks.{BlockReads, HaveValues, after_lets, is_input}
-use Rattle.mig_graph.specs.declared.Lit.{Lit}
-use Rattle.mig_graph.specs.Graph.{Graph, value}
-use Rattle.mig_graph.specs.Outputs.{lit_at, KeepsOutputs}
+use Rattle.aoi_graph.specs.Blocks.{AreHeld, NamesInputs, HaveValues, after_lets, is_input}
+use Rattle.mig_graph.specs.Graph.{value}
 use Rattle.mig_graph.specs.Inputs.{HasInput, IsInputCount}
 use Rattle.mig_graph.proofs.InputLaws.{held-inputs, count-most}
-use Rattle.loop_ir.specs.Statements.{Slots, BlockMeets, equation_names, targets_of, is_readable}
+use Rattle.loop_ir.specs.Statements.{is_readable}
 use Rattle.block_lower.specs.Inputs.{block_from, block_inputs, name_at, AreNumbered}
 use Rattle.block_lower.proofs.Names.{among-left, among-right, among-kept}
 use Rattle.block_lower.proofs.Gathering.{gathered-all, gathered-length}

@@ -1,10 +1,10 @@
 -- Names in lists.
-use Rattle.std.proofs.Common.{◌≡◌, ℕ, zero, suc, ◌<◌, Bool, true, false, List, [], ◌∷◌, ◌++◌}
-use Rattle.std.proofs.Common.{filter, length, refl, sym, ◌∙◌, subst, arith, ◌⊎◌, inl, inr, bytes_eq}
-use Rattle.std.proofs.lemmas.Bool.{false_from_ne_true, or_cases, or_left, or_right, cases_Bool}
+use Rattle.block_lower.proofs.Common.{◌≡◌, ℕ, zero, suc, ◌<◌, Bool, true, false, List, [], ◌∷◌}
+use Rattle.block_lower.proofs.Common.{◌++◌, filter, length, refl, sym, ◌∙◌, subst, arith, ◌⊎◌, inl}
+use Rattle.block_lower.proofs.Common.{inr, bytes_eq, false_from_ne_true, or_cases, or_left}
+use Rattle.block_lower.proofs.Common.{or_right, cases_Bool, is_among}
 use Rattle.std.proofs.lemmas.Slice.Eq.{bytes_eq-Decides}
 use Rattle.std.proofs.lemmas.List.Folds.{list_any-append}
-use Rattle.op_text.specs.Rules.{is_among}
 use Rattle.block_lower.specs.Inputs.{name_at}
 
 pub name-true : (a b : List ℕ) → bytes_eq a b ≡ true → a ≡ b

@@ -1,16 +1,9 @@
 -- What the code looked at says that the chosen steps do the block.
-use Rattle.std.proofs.Common.{◌≡◌, ℕ, ◌+◌, ◌*◌, ◌≤◌, Bool, List, [], ◌∷◌, length}
-use Rattle.std.proofs.Common.{sym, ap, ◌∙◌, subst, arith, ◌⊎◌, inl, inr}
-use Rattle.std.specs.Prelude.{slice_index_or}
-use Rattle.std.proofs.lemmas.Option.{slice_get_within}
-use Rattle.op_text.specs.declared.tree.State.{State}
-use Rattle.op_text.specs.Language.{Block, Visit}
-use Rattle.loop_ir.specs.declared.ir.Place.{Place}
-use Rattle.loop_ir.specs.Plain.{Block as Body, StepOf}
-use Rattle.loop_ir.specs.Loops.{all_rounds}
-use Rattle.loop_ir.specs.Costs.{rounds_cost}
-use Rattle.loop_ir.specs.Statements.{Slots}
-use Rattle.loop_ir.specs.Lowered.{IsLowered}
+use Rattle.block_lower.proofs.Common.{◌≡◌, ℕ, ◌+◌, ◌*◌, ◌≤◌, Bool, List, [], ◌∷◌, length, sym, ap}
+use Rattle.block_lower.proofs.Common.{◌∙◌, subst, arith, ◌⊎◌, inl, inr, slice_index_or}
+use Rattle.block_lower.proofs.Common.{slice_get_within, State, Block, Visit, Place, StepOf}
+use Rattle.block_lower.proofs.Common.{all_rounds, rounds_cost, Slots, IsLowered}
+use Rattle.loop_ir.specs.Plain.{Block as Body}
 use Rattle.block_lower.specs.Inputs.{block_inputs}
 use Rattle.block_lower.specs.declared.held.HeldLoop.{HeldLoop}
 use Rattle.block_lower.specs.Held.{IsHeldOne, IsLoopFor, held_steps, commands_in}

@@ -1,15 +1,11 @@
 -- Each name that a block reads is an input or an earlier let.
-use Rattle.std.proofs.Common.{◌≡◌, ℕ, ◌+◌, Bool, true, ◌||◌, List, [], ◌∷◌, ◌++◌, map, inl, inr}
-use Rattle.std.proofs.Common.{bytes_eq}
-use Rattle.std.specs.List.{AllByRecursion}
-use Rattle.std.proofs.lemmas.Bool.{or_cases, or_left, or_right}
-use Rattle.op_text.specs.declared.tree.Assign.{Assign}
-use Rattle.op_text.specs.Language.{Term, Nought, Unity, Named, Negation, Conjunction, Disjunction}
-use Rattle.op_text.specs.Language.{Parity, Majority, Equation, term, equation}
-use Rattle.op_text.specs.Spelling.{TermMeets}
-use Rattle.op_text.specs.Rules.{is_among}
-use Rattle.aoi_graph.specs.Blocks.{ReadsKnown, BlockReads}
-use Rattle.loop_ir.specs.Statements.{term_names, equation_names, LetsMeet}
+use Rattle.block_lower.proofs.Common.{◌≡◌, ℕ, ◌+◌, Bool, true, ◌||◌, List, [], ◌∷◌, ◌++◌, map, inl}
+use Rattle.block_lower.proofs.Common.{inr, bytes_eq, AllByRecursion, or_cases, or_left, or_right}
+use Rattle.block_lower.proofs.Common.{Assign, Term, Nought, Unity, Named, Negation, Conjunction}
+use Rattle.block_lower.proofs.Common.{Disjunction, Parity, Majority, Equation, term, equation}
+use Rattle.block_lower.proofs.Common.{TermMeets, is_among, BlockReads, term_names, equation_names}
+use Rattle.block_lower.proofs.Common.{LetsMeet}
+use Rattle.aoi_graph.specs.Blocks.{ReadsKnown}
 use Rattle.block_lower.proofs.Names.{among-left, among-right, among-here}
 
 -- a readable name of the list is known

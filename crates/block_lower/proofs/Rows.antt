@@ -1,18 +1,10 @@
 -- The rows of places.
-use Rattle.std.proofs.Common.{◌≡◌, ℕ, zero, suc, ◌+◌, ◌-◌, ◌*◌, ◌<◌, Bool, true, false, cond, List}
-use Rattle.std.proofs.Common.{[], ◌∷◌, map, length, Option, Some, None, refl, sym, ap, ◌∙◌, arith}
-use Rattle.op_text.specs.declared.tree.Kind.{Kind}
-use Rattle.op_text.specs.declared.tree.Kind.TheVariants.{Word, Bit}
-use Rattle.op_text.specs.Meaning.{width}
-use Rattle.loop_ir.specs.declared.ir.Space.{Space}
-use Rattle.loop_ir.specs.declared.ir.Space.TheVariants.{Result, Source, ScratchBit, ScratchWord}
-use Rattle.loop_ir.specs.declared.ir.Space.TheVariants.{Cells}
-use Rattle.loop_ir.specs.declared.ir.Place.{Place}
-use Rattle.loop_ir.specs.declared.names.Slot.{Slot}
-use Rattle.loop_ir.specs.Loops.{sub_value}
-use Rattle.loop_ir.specs.Spots.{Spot, spot_in, spot_at, nth_place}
-use Rattle.loop_ir.specs.Statements.{Slots, holds_kind}
-use Rattle.loop_ir.specs.Lowered.{slot_spot}
+use Rattle.block_lower.proofs.Common.{◌≡◌, ℕ, zero, suc, ◌+◌, ◌-◌, ◌*◌, ◌<◌, Bool, true, false}
+use Rattle.block_lower.proofs.Common.{cond, List, [], ◌∷◌, map, length, Option, Some, None, refl}
+use Rattle.block_lower.proofs.Common.{sym, ap, ◌∙◌, arith, Kind, Word, Bit, width, Space, Result}
+use Rattle.block_lower.proofs.Common.{Source, ScratchBit, ScratchWord, Cells, Place, Slot}
+use Rattle.block_lower.proofs.Common.{sub_value, Spot, spot_in, spot_at, nth_place, Slots}
+use Rattle.block_lower.proofs.Common.{holds_kind, slot_spot}
 use Rattle.block_lower.specs.Inputs.{name_at}
 use Rattle.block_lower.specs.Form.{kind_sub, place_of}
 

@@ -1,12 +1,10 @@
 -- Graphs that are the same node by node.
-use Rattle.std.proofs.Common.{◌≡◌, ℕ, suc, ◌<◌, Bool, true, false, List, [], ◌∷◌, length, refl, sym}
-use Rattle.std.proofs.Common.{ap, ◌∙◌, arith, get_or}
-use Rattle.std.specs.Prelude.{not, ◌==◌}
-use Rattle.std.proofs.lemmas.Bool.{and_parts, eqb-true}
+use Rattle.block_lower.proofs.Common.{◌≡◌, ℕ, suc, ◌<◌, Bool, true, false, List, [], ◌∷◌, length}
+use Rattle.block_lower.proofs.Common.{refl, sym, ap, ◌∙◌, arith, get_or, ◌==◌, and_parts, eqb-true}
+use Rattle.block_lower.proofs.Common.{Lit, Graph, node_at}
+use Rattle.std.specs.Prelude.{not}
 use mathlib.Core.Bool.{beq}
-use Rattle.mig_graph.specs.declared.Lit.{Lit}
 use Rattle.mig_graph.specs.declared.Node.{Node}
-use Rattle.mig_graph.specs.Graph.{Graph, node_at}
 use Rattle.loop_ir.specs.Same.{same_lit}
 
 bits-same : (i j : Bool) → beq i j ≡ true → i ≡ j

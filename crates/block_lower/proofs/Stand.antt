@@ -1,18 +1,11 @@
 -- Where the names of a block stand: each in its row, or the block's one state in cells.
-use Rattle.std.proofs.Common.{◌≡◌, ℕ, ◌<◌, Bool, true, false, cond, List, refl, sym, ap, ◌∙◌, subst}
-use Rattle.std.proofs.Common.{◌⊎◌, inl, inr}
-use Rattle.std.proofs.lemmas.Bool.{cases_Bool, false≢true}
-use Rattle.op_text.specs.declared.tree.Kind.{Kind}
-use Rattle.op_text.specs.Language.{Block, Visit}
-use Rattle.op_text.specs.Meaning.{width}
-use Rattle.op_text.specs.Rules.{is_among}
-use Rattle.op_text.specs.Scratch.{state_names}
-use Rattle.loop_ir.specs.declared.ir.Space.{Space}
-use Rattle.loop_ir.specs.declared.ir.Space.TheVariants.{Result, Source, ScratchBit, ScratchWord}
-use Rattle.loop_ir.specs.declared.ir.Space.TheVariants.{Cells}
-use Rattle.loop_ir.specs.Spots.{Spot, is_state, IsOwn}
-use Rattle.loop_ir.specs.Statements.{Slots, holds_kind, targets_of, statement_names, written_names}
-use Rattle.loop_ir.specs.Lowered.{slot_spot, IsRowOf, IsStatementRow}
+use Rattle.block_lower.proofs.Common.{◌≡◌, ℕ, ◌<◌, Bool, true, false, cond, List, refl, sym, ap}
+use Rattle.block_lower.proofs.Common.{◌∙◌, subst, ◌⊎◌, inl, inr, cases_Bool, Kind, Block, Visit}
+use Rattle.block_lower.proofs.Common.{width, is_among, state_names, Space, Result, Source}
+use Rattle.block_lower.proofs.Common.{ScratchBit, ScratchWord, Cells, Spot, is_state, IsOwn, Slots}
+use Rattle.block_lower.proofs.Common.{holds_kind, targets_of, statement_names, written_names}
+use Rattle.block_lower.proofs.Common.{slot_spot, IsRowOf, IsStatementRow}
+use Rattle.std.proofs.lemmas.Bool.{false≢true}
 use Rattle.block_lower.proofs.Rows.{slot_or, row_of, row-below, named_row, spot-space}
 use Rattle.block_lower.proofs.Facts.{Given, IsState, IsTarget, IsWritten, IsNamed, written-named}
 use Rattle.block_lower.proofs.Facts.{held-kind, state-kind, rows-once, own-row, row-is}

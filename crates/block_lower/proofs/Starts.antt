@@ -1,21 +1,14 @@
 -- The states get their starts where they stand.
-use Rattle.std.proofs.Common.{◌≡◌, ℕ, ◌<◌, Bool, true, false, List, [], ◌∷◌, ◌++◌, map, length}
-use Rattle.std.proofs.Common.{bytes_eq, refl, sym, ap, ◌∙◌, arith, ◌⊎◌, inl, inr}
-use Rattle.std.proofs.lemmas.Bool.{or_cases, or_left, or_right}
+use Rattle.block_lower.proofs.Common.{◌≡◌, ℕ, ◌<◌, Bool, true, false, List, [], ◌∷◌, ◌++◌, map}
+use Rattle.block_lower.proofs.Common.{length, bytes_eq, refl, sym, ap, ◌∙◌, arith, ◌⊎◌, inl, inr}
+use Rattle.block_lower.proofs.Common.{or_cases, or_left, or_right, Lit, BodyCmd, State, Block}
+use Rattle.block_lower.proofs.Common.{Visit, NameValue, changed, with_states, with_blanks, is_among}
+use Rattle.block_lower.proofs.Common.{Place, StepOf, RoundOf, all_rounds, Spot, Spots, is_state}
+use Rattle.block_lower.proofs.Common.{set_spot, spot_at, after_round, after_rounds, Slots}
+use Rattle.block_lower.proofs.Common.{written_names, IsRowOf}
 use Rattle.std.proofs.lemmas.List.{length-replicate}
 use Rattle.mig_graph.specs.Graph.{values_from}
-use Rattle.mig_graph.specs.declared.Lit.{Lit}
-use Rattle.row_alloc.specs.declared.body.BodyCmd.{BodyCmd}
-use Rattle.op_text.specs.declared.tree.State.{State}
-use Rattle.op_text.specs.Language.{Block, Visit}
-use Rattle.op_text.specs.Meaning.{NameValue, changed, with_states, with_blanks}
-use Rattle.op_text.specs.Rules.{is_among}
-use Rattle.loop_ir.specs.declared.ir.Place.{Place}
-use Rattle.loop_ir.specs.Plain.{Block as Body, StepOf}
-use Rattle.loop_ir.specs.Loops.{RoundOf, all_rounds}
-use Rattle.loop_ir.specs.Spots.{Spot, Spots, is_state, set_spot, spot_at, after_round, after_rounds}
-use Rattle.loop_ir.specs.Statements.{Slots, written_names}
-use Rattle.loop_ir.specs.Lowered.{IsRowOf}
+use Rattle.loop_ir.specs.Plain.{Block as Body}
 use Rattle.loop_laws.proofs.Same.{set_same, set_other}
 use Rattle.block_lower.specs.Form.{place_of, constant, start}
 use Rattle.block_lower.proofs.Names.{name-true, name-same, cases_name}

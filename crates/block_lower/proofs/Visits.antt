@@ -1,24 +1,17 @@
 -- A round at a position does the block's visit there, wherever its names stand before and after it.
-use Rattle.std.proofs.Common.{◌≡◌, ℕ, zero, suc, ◌+◌, ◌<◌, Bool, false, List, [], ◌∷◌, map, length}
-use Rattle.std.proofs.Common.{fold, slice_index_or, slice_set, refl, sym, ap, ◌∙◌, subst, arith}
-use Rattle.std.proofs.Common.{inl, inr}
-use Rattle.std.proofs.lemmas.Bool.{cases_Bool, cases_eq}
-use Rattle.std.proofs.lemmas.List.{length-map, length-set, get_or-set_same, get_or-set_other}
-use Rattle.row_alloc.specs.declared.body.BodyCmd.{BodyCmd}
-use Rattle.op_text.specs.declared.tree.Kind.{Kind}
-use Rattle.op_text.specs.declared.tree.Kind.TheVariants.{Word, Bit}
-use Rattle.op_text.specs.Language.{Equation, Block, Visit, Nought}
-use Rattle.op_text.specs.Meaning.{NameValue, term_bit, with_lets, bit_read, bit_written, visited}
-use Rattle.op_text.specs.Meaning.{width}
-use Rattle.op_text.specs.Rules.{is_among}
-use Rattle.op_text.specs.Scratch.{state_names, word_names}
-use Rattle.loop_ir.specs.declared.ir.Place.{Place}
+use Rattle.block_lower.proofs.Common.{◌≡◌, ℕ, zero, suc, ◌+◌, ◌<◌, Bool, false, List, [], ◌∷◌, map}
+use Rattle.block_lower.proofs.Common.{length, fold, refl, sym, ap, ◌∙◌, subst, arith, inl, inr}
+use Rattle.block_lower.proofs.Common.{cases_Bool, cases_eq, length-map, BodyCmd, Kind, Word, Bit}
+use Rattle.block_lower.proofs.Common.{Equation, Block, Visit, Nought, NameValue, term_bit}
+use Rattle.block_lower.proofs.Common.{with_lets, bit_read, bit_written, visited, width, is_among}
+use Rattle.block_lower.proofs.Common.{state_names, word_names, Place, RoundOf, round_at, rounds}
+use Rattle.block_lower.proofs.Common.{Spot, Spots, is_state, spot_at, nth_place, nth_spot}
+use Rattle.block_lower.proofs.Common.{after_round, after_rounds, Slots, targets_of, written_names}
+use Rattle.block_lower.proofs.Common.{slot_spot, IsRowOf}
+use Rattle.std.proofs.Common.{slice_index_or, slice_set}
+use Rattle.std.proofs.lemmas.List.{length-set, get_or-set_same, get_or-set_other}
 use Rattle.loop_ir.specs.Plain.{Block as Body}
-use Rattle.loop_ir.specs.Loops.{RoundOf, round_at, rounds}
-use Rattle.loop_ir.specs.Spots.{Spot, Spots, is_state, spot_at, nth_place, nth_spot, round_env}
-use Rattle.loop_ir.specs.Spots.{gives, after_round, after_rounds}
-use Rattle.loop_ir.specs.Statements.{Slots, targets_of, written_names}
-use Rattle.loop_ir.specs.Lowered.{slot_spot, IsRowOf}
+use Rattle.loop_ir.specs.Spots.{round_env, gives}
 use Rattle.loop_laws.proofs.Same.{write_other, write_at}
 use Rattle.block_lower.specs.Inputs.{block_inputs}
 use Rattle.block_lower.specs.Form.{place_of, places_of, IsBlockBody}

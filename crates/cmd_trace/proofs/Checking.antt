@@ -1,15 +1,12 @@
 -- Events that are read one after another.
-use Rattle.std.proofs.Common.{◌≡◌, ℕ, suc, ◌+◌, ◌-◌, ◌<◌, ◌≤◌, List, [], ◌∷◌, ◌++◌, refl, sym, ◌∙◌}
-use Rattle.std.proofs.Common.{ap, arith, append_assoc, append-nil}
-use Rattle.std.specs.Prelude.{Result, Ok, Err, IfOk}
-use Rattle.dram_model.specs.declared.geometry.Geometry.{Geometry}
-use Rattle.dram_model.specs.Chip.{Event}
-use Rattle.file_fields.specs.Fields.{◌>>=◌, IsBytes}
+use Rattle.cmd_trace.proofs.Common.{◌≡◌, ℕ, suc, ◌+◌, ◌-◌, ◌<◌, ◌≤◌, List, [], ◌∷◌, ◌++◌, refl, sym}
+use Rattle.cmd_trace.proofs.Common.{◌∙◌, ap, arith, append_assoc, append-nil, Result, Ok, Err}
+use Rattle.cmd_trace.proofs.Common.{Geometry, Event, ◌>>=◌, IsBytes, files_are_exact, TraceFault}
+use Rattle.cmd_trace.proofs.Common.{event_at, events_at, trace_in}
+use Rattle.std.specs.Prelude.{IfOk}
 use Rattle.trace_model.specs.Spelling.{Trace, IsTrace, bytes_of_trace}
-use Rattle.trace_model.proofs.Files.{files_are_exact}
 use Rattle.cmd_trace.specs.Opened.{Answers}
 use Rattle.cmd_trace.specs.declared.fault.TraceNo.{TraceNo}
-use Rattle.trace_model.specs.Reading.{TraceFault, event_at, events_at, trace_in}
 use Rattle.cmd_trace.proofs.Tapes.{rest_of, following, none_is, more_is}
 
 -- these events, and those that are read after them

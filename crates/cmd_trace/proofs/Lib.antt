@@ -1,3 +1,4 @@
+pub mod Common
 pub mod Tapes
 pub mod Checking
 pub mod Places

@@ -1,15 +1,11 @@
 -- Bytes that are put in place of others, one after another.
-use Rattle.std.proofs.Common.{◌≡◌, ℕ, ◌+◌, ◌*◌, ◌≤◌, List, [], ◌++◌, length, take, drop, refl, sym}
-use Rattle.std.proofs.Common.{◌∙◌, ap}
-use Rattle.std.specs.Int.{to_le_bytes, w16, w32}
-use Rattle.std.specs.List.{flat_map}
-use Rattle.dram_model.specs.declared.geometry.Geometry.{Geometry}
-use Rattle.object_alloc.specs.Listed.{Named}
-use Rattle.object_alloc.specs.Spelling.{geometry_bytes, object_bytes}
-use Rattle.trace_model.specs.Spelling.{trace_head, trace_opening}
-use Rattle.std.proofs.Common.{arith, append_assoc, length-append}
-use Rattle.std.proofs.lemmas.List.{take_at, drop_at, drop-drop, take-append-drop, length-take}
-use Rattle.std.proofs.lemmas.List.{length-drop}
+use Rattle.cmd_trace.proofs.Common.{◌≡◌, ℕ, ◌+◌, ◌*◌, ◌≤◌, List, [], ◌++◌, length, take, drop, refl}
+use Rattle.cmd_trace.proofs.Common.{sym, ◌∙◌, ap, to_le_bytes, w16, w32, flat_map, Geometry, Named}
+use Rattle.cmd_trace.proofs.Common.{object_bytes, trace_head, arith, append_assoc, length-append}
+use Rattle.cmd_trace.proofs.Common.{drop_at, drop-drop, length-drop}
+use Rattle.object_alloc.specs.Spelling.{geometry_bytes}
+use Rattle.trace_model.specs.Spelling.{trace_opening}
+use Rattle.std.proofs.lemmas.List.{take_at, take-append-drop, length-take}
 use Rattle.cmd_trace.specs.Places.{IsPut}
 
 pub put_none : (at : ℕ) (old : List ℕ) → IsPut at [] old old

@@ -1,15 +1,12 @@
 -- Events that are done one after another.
-use Rattle.std.proofs.Common.{◌≡◌, ℕ, suc, ◌+◌, ◌-◌, ◌<◌, ◌≤◌, true}
-use Rattle.std.proofs.Common.{List, [], ◌∷◌, ◌++◌, refl, ◌∙◌, ap, subst, arith}
-use Rattle.std.proofs.Common.{append-nil}
-use Rattle.std.specs.Prelude.{Result, Ok, Err, OnErr}
-use Rattle.dram_model.specs.declared.geometry.Geometry.{Geometry}
-use Rattle.dram_model.specs.Chip.{Banks, Event, Grew, bank_of}
-use Rattle.dram_model.specs.View.{ChipView, Did, FailedIn, Kept, StoppedIn}
+use Rattle.cmd_trace.proofs.Common.{◌≡◌, ℕ, suc, ◌+◌, ◌-◌, ◌<◌, ◌≤◌, true, List, [], ◌∷◌, ◌++◌}
+use Rattle.cmd_trace.proofs.Common.{refl, ◌∙◌, ap, subst, arith, append-nil, Result, Ok, Err}
+use Rattle.cmd_trace.proofs.Common.{Geometry, Event, Grew, ChipView, Did, Kept, ◌>>=◌, IsBytes}
+use Rattle.cmd_trace.proofs.Common.{IsEvent, TraceFault, event_at, events_at}
+use Rattle.std.specs.Prelude.{OnErr}
+use Rattle.dram_model.specs.Chip.{Banks, bank_of}
+use Rattle.dram_model.specs.View.{FailedIn, StoppedIn}
 use Rattle.dram_model.proofs.EventLaws.{Grew-more}
-use Rattle.file_fields.specs.Fields.{◌>>=◌, IsBytes}
-use Rattle.trace_model.specs.Spelling.{IsEvent}
-use Rattle.trace_model.specs.Reading.{TraceFault, event_at, events_at}
 use Rattle.trace_model.proofs.Events.{event_takes}
 use Rattle.cmd_trace.specs.Tape.{ends_at, events_read}
 use Rattle.cmd_trace.proofs.Tapes.{rest_of, following, none_is, more_is}

@@ -1,18 +1,10 @@
 -- Events are read from their place on, so what is put in front of them changes no log.
-use Rattle.std.proofs.Common.{◌≡◌, ℕ, zero, suc, ◌+◌, ◌*◌, ◌-◌, ◌≤◌, List, length, drop, refl, sym}
-use Rattle.std.proofs.Common.{◌∙◌, ap, arith}
-use Rattle.std.specs.Prelude.{Result, Ok, Err}
-use Rattle.std.proofs.lemmas.List.{drop-drop}
-use Rattle.dram_model.specs.declared.geometry.Geometry.{Geometry}
-use Rattle.dram_model.specs.Chip.{Event}
-use Rattle.dram_model.specs.Chip.Event.{Write}
-use Rattle.dram_model.specs.View.{ChipView}
-use Rattle.object_alloc.specs.Bytes.{bits_of_bytes}
-use Rattle.file_fields.specs.Fields.{◌>>=◌, rule}
+use Rattle.cmd_trace.proofs.Common.{◌≡◌, ℕ, zero, suc, ◌+◌, ◌*◌, ◌-◌, ◌≤◌, List, length, drop, refl}
+use Rattle.cmd_trace.proofs.Common.{sym, ◌∙◌, ap, arith, Result, Ok, Err, drop-drop, Geometry}
+use Rattle.cmd_trace.proofs.Common.{Event, Write, ChipView, bits_of_bytes, ◌>>=◌, rule, Head}
+use Rattle.cmd_trace.proofs.Common.{Commands, Writes, TraceFault, bytes_at, head_at, head_in}
+use Rattle.cmd_trace.proofs.Common.{is_legal_head, needed, with_row, event_at, events_at}
 use Rattle.trace_model.specs.declared.TraceKind.TheVariants as kinds
-use Rattle.trace_model.specs.Spelling.{Head, Commands, Writes}
-use Rattle.trace_model.specs.Reading.{TraceFault, bytes_at, head_at, head_in, is_legal_head, needed}
-use Rattle.trace_model.specs.Reading.{with_row, event_at, events_at}
 use Rattle.cmd_trace.specs.declared.sizes.TheConstants.{HEAD_BYTES_MAX}
 use Rattle.cmd_trace.specs.Tape.{NotesView, kept_in, recorded}
 use Rattle.cmd_trace.proofs.Tapes.{event_long, following, more_is, none_is, rest_of}

@@ -1,41 +1,36 @@
 -- A tape after one event more: what it tells.
-use Rattle.std.proofs.Common.{◌≡◌, ℕ, zero, suc, ◌+◌, ◌*◌, ◌^◌, ◌<◌, ◌≤◌, Bool, true, false, ◌&&◌}
-use Rattle.std.proofs.Common.{cond, leb, List, [], ◌∷◌, ◌++◌, length, drop, Option}
-use Rattle.std.proofs.Common.{Some, None, refl, sym, ◌∙◌, ap, subst, arith, length-append}
-use Rattle.std.proofs.Common.{append_assoc, append-nil}
-use Rattle.std.specs.Prelude.{Result, Ok, Err, IfSome, is_some}
+use Rattle.cmd_trace.proofs.Common.{◌≡◌, ℕ, zero, suc, ◌+◌, ◌*◌, ◌^◌, ◌<◌, ◌≤◌, true, List, [], ◌∷◌}
+use Rattle.cmd_trace.proofs.Common.{◌++◌, length, drop, refl, sym, ◌∙◌, ap, subst, arith}
+use Rattle.cmd_trace.proofs.Common.{length-append, append_assoc, append-nil, Result, Ok, Err}
+use Rattle.cmd_trace.proofs.Common.{drop_at, Counters, Geometry, Event, Grew, Row, Write, ChipView}
+use Rattle.cmd_trace.proofs.Common.{Kept, Did, bits_of_words, bits_of_bytes, bytes_of_bits, ◌>>=◌}
+use Rattle.cmd_trace.proofs.Common.{rule, Head, Commands, Writes, event_head_bytes, IsEvent}
+use Rattle.cmd_trace.proofs.Common.{trace_head, Named, to_le_bytes, w32, TraceFault, bytes_at}
+use Rattle.cmd_trace.proofs.Common.{head_at, head_in, is_legal_head, needed, with_row, event_at}
+use Rattle.cmd_trace.proofs.Common.{events_at}
+use Rattle.std.proofs.lemmas.Bool.{and_parts, eqb-true, eq-eqb}
+use Rattle.std.proofs.Common.{Bool, false, ◌&&◌, cond, leb, Option, Some, None}
+use Rattle.std.specs.Prelude.{IfSome, is_some}
 use Rattle.std.specs.Str.{bytes_eq}
-use Rattle.std.proofs.lemmas.Bool.{eqb-true, eq-eqb}
 use Rattle.std.proofs.lemmas.Bool.Decides.{nat_tests}
 use Rattle.std.proofs.lemmas.List.Concat.{flat_map-append}
 use Rattle.std.proofs.lemmas.Slice.Eq.{bytes_eq-Decides}
-use Rattle.std.proofs.lemmas.List.{drop_all, drop_at}
-use Rattle.dram_model.specs.declared.dram.Counters.{Counters}
-use Rattle.dram_model.specs.declared.geometry.Geometry.{Geometry}
+use Rattle.std.proofs.lemmas.List.{drop_all}
 use Rattle.dram_model.specs.Geometry.{is_geometry}
-use Rattle.dram_model.specs.Chip.{Event, Log, Grew, event_bits, log_bits}
-use Rattle.dram_model.specs.Chip.Event.{Row, Write}
-use Rattle.dram_model.specs.View.{ChipView, HasBegun, Kept, Did}
-use Rattle.bit_rows.specs.Bits.{bits_of_words}
+use Rattle.dram_model.specs.Chip.{Log, event_bits, log_bits}
+use Rattle.dram_model.specs.View.{HasBegun}
 use Rattle.bit_rows.proofs.Words.{length-words}
-use Rattle.object_alloc.specs.Bytes.{bits_of_bytes, bytes_of_bits}
 use Rattle.object_alloc.proofs.Images.{bounds_of}
 use Rattle.object_alloc.proofs.Rows.{length-bits_of_bytes}
-use Rattle.file_fields.specs.Fields.{◌>>=◌, rule}
 use Rattle.file_fields.proofs.Held.{Holds, bytes_takes, bytes_again, bind_ok, ok_is}
 use Rattle.file_fields.proofs.Padded.{between_is}
 use Rattle.trace_model.specs.declared.TraceKind.{TraceKind}
-use Rattle.trace_model.specs.declared.TraceKind.TheVariants as kinds
-use Rattle.trace_model.specs.Spelling.{Head, Commands, Writes, event_bytes, event_head_bytes}
-use Rattle.trace_model.specs.Spelling.{events_bytes, IsEvent, trace_bytes, trace_head}
-use Rattle.object_alloc.specs.Listed.{Named}
-use Rattle.std.specs.Int.{to_le_bytes, w32}
-use Rattle.trace_model.specs.Reading.{TraceFault, bytes_at, head_at, head_in, is_legal_head, needed}
-use Rattle.trace_model.specs.Reading.{with_row, event_at, events_at}
+use Rattle.trace_model.specs.Spelling.{event_bytes, events_bytes, trace_bytes}
 use Rattle.trace_model.proofs.Events.{event_again}
 use Rattle.trace_model.proofs.Records.{event_length}
 use Rattle.trace_model.proofs.Files.{few_rows}
 use Rattle.dram_model.proofs.EventLaws.{log_bits-append}
+use Rattle.trace_model.specs.declared.TraceKind.TheVariants as kinds
 use Rattle.cmd_trace.specs.declared.sizes.TheConstants.{EVENTS_BYTES_MAX, HEAD_BYTES_MAX}
 use Rattle.cmd_trace.specs.declared.sizes.TheConstants.{TRACE_BYTES_MAX}
 use Rattle.cmd_trace.specs.Tape.{NotesView, ends_at, events_on, events_read, is_whole, kept_in}
@@ -232,11 +227,6 @@ event_bits_of g (Write bank row bits) is =
 
 -- ---- what is whole
 
--- both parts of a test that holds
-pub both : (a b : Bool) → (a && b) ≡ true → (a ≡ true) × (b ≡ true)
-both true b h = (refl, h)
-both false b h = absurd cc
-
 abbrev done : List Event × ℕ → Result (List Event × ℕ) TraceFault
 done x = Ok x
 
@@ -265,9 +255,9 @@ whole_case g tape true t h =
     let room = leb (length tape.bytes) TRACE_BYTES_MAX in
     let ends = ends_at (length tape.bytes) (events_at tape.count g HEAD_BYTES_MAX tape.bytes) in
     let same = bytes_eq (kept_in tape) (events_bytes g (events_on g tape)) in
-    let a = both (is_geometry g && room && ends) same h in
-    let b = both (is_geometry g && room) ends a.0 in
-    let c = both (is_geometry g) room b.0 in
+    let a = and_parts (is_geometry g && room && ends) same h in
+    let b = and_parts (is_geometry g && room) ends a.0 in
+    let c = and_parts (is_geometry g) room b.0 in
     record {
       shape = c.0;
       room = at_most (length tape.bytes) TRACE_BYTES_MAX c.1;
@@ -404,7 +394,7 @@ pub did_recorded : (event : Event) (old new : ChipView) (tape after : NotesView)
     → Did (event ∷ []) old new → after ≡ kept_on tape (event_bytes old.geometry event)
     → DidRecord event (recorded old tape) (recorded new after)
 did_recorded event old new tape after h is kept did e =
-    let b = both old.begun (is_whole old.geometry tape) h in
+    let b = and_parts old.begun (is_whole old.geometry tape) h in
     let known = kept_known old.geometry tape event b.1 is in
     let same = kept_on tape (event_bytes old.geometry event) in
     subst (λ (t : NotesView). DidRecord event (recorded old tape) (recorded new t)) (sym e) (record {
@@ -456,7 +446,7 @@ spelled_log chip tape kept h e = log_case tape.known refl where
       → IfSome (cond known (Some (events_on chip.geometry tape)) None)
       (λ events. kept ≡ events_bytes chip.geometry events)
   log_case true t = e ∙ (tells chip.geometry tape
-      (both chip.begun (is_whole chip.geometry tape) h).1 t).spelled
+      (and_parts chip.begun (is_whole chip.geometry tape) h).1 t).spelled
   log_case false t = tt
 
 -- what a recorder needs to keep an event
@@ -464,7 +454,7 @@ pub few_kept : (chip : ChipView) (tape : NotesView) (bank : ℕ) → HasBegun (r
     → bank < chip.geometry.banks → tape.known ≡ true → (bank < 256) × (tape.count < 2 ^ 31)
 few_kept chip tape bank h l t =
     let g = chip.geometry in
-    let tells = tells g tape (both chip.begun (is_whole g tape) h).1 t in
+    let tells = tells g tape (and_parts chip.begun (is_whole g tape) h).1 t in
     let b = between_is 1 16 g.banks (bounds_of g tells.shape).banks in
     (omega (arith, b.1, l), few g tape tells)
 
@@ -529,7 +519,7 @@ unfolding trace_bytes
 file_of_log chip tape file table h log e =
     let g = chip.geometry in
     let t = is_known (events_on g tape) tape.known log in
-    let whole = tells g tape (both chip.begun (is_whole g tape) h).1 t in
+    let whole = tells g tape (and_parts chip.begun (is_whole g tape) h).1 t in
     let events = events_on g tape in
     let number : length events ≡ tape.count =
     events_number tape.count g HEAD_BYTES_MAX tape.bytes (events, length tape.bytes) whole.read in

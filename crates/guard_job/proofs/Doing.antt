@@ -1,39 +1,31 @@
 -- One instruction with the flips and the vote before it.
-use Rattle.std.proofs.Common.{◌≡◌, ℕ, ◌+◌, ◌<◌, Bool, true, false, cond, List, [], ◌∷◌, ◌++◌}
-use Rattle.std.proofs.Common.{length, map, refl, sym, ◌∙◌, ap, subst, append_assoc}
-use Rattle.std.proofs.Common.{Option, Some, None}
+use Rattle.guard_job.proofs.Common.{◌≡◌, ℕ, ◌+◌, ◌<◌, Bool, true, false, cond, List, [], ◌∷◌, ◌++◌}
+use Rattle.guard_job.proofs.Common.{length, map, refl, sym, ◌∙◌, ap, subst, Option, Some, Counters}
+use Rattle.guard_job.proofs.Common.{Geometry, Banks, Event, Grew, after, ChipView, Grew-more, Named}
+use Rattle.guard_job.proofs.Common.{Instruction, Routines, is_refused, Machine, geometry_of}
+use Rattle.guard_job.proofs.Common.{operations_by, table_in, turn_in, is_print, Turn, IsDoneBy}
+use Rattle.guard_job.proofs.Common.{doing, Flip, all_flipped, vote_count, vote_events}
+use Rattle.guard_job.proofs.Common.{guarded_events, guarded_reply, guarded_rows, plain_script}
+use Rattle.std.proofs.Common.{append_assoc, None}
 use mir.Val.{bool_byte}
-use Rattle.dram_model.specs.declared.dram.Counters.{Counters}
-use Rattle.dram_model.specs.declared.geometry.Geometry.{Geometry}
-use Rattle.dram_model.specs.Chip.{Banks, Event, Grew, after}
-use Rattle.dram_model.specs.View.{ChipView, Did, with_reads}
-use Rattle.dram_model.proofs.EventLaws.{Grew-more}
-use Rattle.object_alloc.specs.Listed.{Named}
+use Rattle.dram_model.specs.View.{Did, with_reads}
 use Rattle.bbop_isa.specs.declared.instr.Place.{Place}
-use Rattle.bbop_isa.specs.Forms.{Instruction, Init, Bbop, Load, Fill, Print, Free, Order}
+use Rattle.bbop_isa.specs.Forms.{Init, Bbop, Load, Fill, Print, Free, Order}
 use Rattle.machine_model.specs.declared.Reply.{Reply}
 use Rattle.machine_model.specs.declared.Why.{Why}
 use Rattle.machine_model.specs.Pieces.{events_of_pieces, piece_of}
 use Rattle.machine_model.specs.Refusals.{refusal}
 use Rattle.machine_model.specs.Steps.{if_done}
 use Rattle.machine_model.specs.Laws.{FitsBanks}
-use Rattle.machine_model.specs.Routines.{Routines}
-use Rattle.machine_model.specs.Script.{counters_at_end, is_refused}
+use Rattle.machine_model.specs.Script.{counters_at_end}
 use Rattle.machine_model.proofs.Bounds.{geometry_parts}
 use Rattle.machine_model.proofs.Tables.{fits_banks}
-use Rattle.sim_machine.specs.declared.machine.Machine.{Machine}
-use Rattle.sim_machine.specs.Machine.{IsLaidOut, geometry_of, operations_by, table_in, turn_in}
-use Rattle.sim_machine.specs.Machine.{is_print}
+use Rattle.sim_machine.specs.Machine.{IsLaidOut}
 use Rattle.sim_machine.specs.Steps.{DidAndRead}
 use Rattle.sim_machine.proofs.Stepping.{if_same}
 use Rattle.object_steps.specs.Lines.{DidReadAtMost}
-use Rattle.wave_model.specs.Schedule.{Turn}
-use Rattle.cli_model.specs.Waves.{IsDoneBy, doing}
-use Rattle.guard_model.specs.declared.Flip.{Flip}
-use Rattle.guard_model.specs.Flips.{all_flipped}
-use Rattle.guard_model.specs.Votes.{vote_count, vote_events, voted}
-use Rattle.guard_model.specs.Guarded.{guarded_events, guarded_reads, guarded_reply, guarded_rows}
-use Rattle.guard_model.specs.Guarded.{place_on, plain_script}
+use Rattle.guard_model.specs.Votes.{voted}
+use Rattle.guard_model.specs.Guarded.{guarded_reads, place_on}
 use Rattle.guard_model.specs.Triples.{x_letter}
 use Rattle.guard_model.proofs.Runs.{script_by}
 use Rattle.guard_model.proofs.Commands.{vote_is_counted, vote_is_events}

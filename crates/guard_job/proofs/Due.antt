@@ -1,20 +1,13 @@
 -- The flips that are due, and those after them.
-use Rattle.std.proofs.Common.{◌≡◌, ◌≢◌, ℕ, ◌+◌, ◌<◌, ◌≤◌, true, false, eqb, List, []}
-use Rattle.std.proofs.Common.{◌∷◌, drop, length, get_or, refl, sym, ◌∙◌, ap, subst, arith}
-use Rattle.std.proofs.Common.{inl, inr, Option, Some, None, append-nil}
-use Rattle.std.specs.List.{AllByRecursion}
+use Rattle.guard_job.proofs.Common.{◌≡◌, ℕ, ◌+◌, ◌<◌, ◌≤◌, true, false, List, [], ◌∷◌, drop, length}
+use Rattle.guard_job.proofs.Common.{get_or, refl, sym, ◌∙◌, ap, subst, arith, inl, inr, Option}
+use Rattle.guard_job.proofs.Common.{Some, AllByRecursion, drop_more, Geometry, Event, Grew, Write}
+use Rattle.guard_job.proofs.Common.{Banks, row_in, Grew-more, ChipView, Flip, due, flipped}
+use Rattle.guard_job.proofs.Common.{with_bit_inverted, AreSorted, IsFlip}
+use Rattle.std.proofs.Common.{◌≢◌, eqb, None, append-nil}
 use Rattle.std.proofs.lemmas.Bool.Decides.{eqb_tells, nat_tests}
-use Rattle.std.proofs.lemmas.List.{drop_more}
-use Rattle.dram_model.specs.declared.geometry.Geometry.{Geometry}
-use Rattle.dram_model.specs.Chip.{Event, Grew}
-use Rattle.dram_model.specs.Chip.Event.{Write}
-use Rattle.dram_model.specs.Chip.{Banks, row_in}
-use Rattle.dram_model.proofs.EventLaws.{Grew-more, Grew-none}
-use Rattle.dram_model.specs.View.{ChipView}
-use Rattle.guard_model.specs.declared.Flip.{Flip}
-use Rattle.guard_model.specs.Flips.{due, flipped, with_bit_inverted}
+use Rattle.dram_model.proofs.EventLaws.{Grew-none}
 use Rattle.guard_job.specs.Events.{flip_events}
-use Rattle.guard_model.specs.FlipText.{AreSorted, IsFlip}
 use Rattle.guard_job.specs.Parts.{IsCell}
 
 -- none of later flips is due

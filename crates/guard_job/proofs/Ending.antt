@@ -1,28 +1,12 @@
 -- The end of a guarded script, and its steps one by one.
-use Rattle.std.proofs.Common.{◌≡◌, ℕ, ◌+◌, ◌<◌, ◌≤◌, List, [], ◌∷◌, length, map, drop, get_or}
-use Rattle.std.proofs.Common.{sym, ◌∙◌, ap, subst, arith}
-use Rattle.std.specs.Prelude.{Err, None}
-use Rattle.std.specs.List.{AllByRecursion}
-use Rattle.std.proofs.lemmas.List.{drop-drop, drop_more}
-use Rattle.dram_model.specs.declared.geometry.Geometry.{Geometry}
-use Rattle.dram_model.specs.declared.dram.Counters.{Counters}
-use Rattle.dram_model.specs.Chip.{Banks}
-use Rattle.dram_model.specs.View.{ChipView}
-use Rattle.object_alloc.specs.Listed.{Named}
-use Rattle.bbop_isa.specs.declared.instr.Instr.{Instr}
-use Rattle.bbop_isa.specs.Forms.{Instruction, view_of}
-use Rattle.wave_model.specs.Schedule.{Turn}
-use Rattle.machine_model.specs.Routines.{Routines}
+use Rattle.guard_job.proofs.Common.{◌≡◌, ℕ, ◌+◌, ◌<◌, ◌≤◌, List, [], ◌∷◌, length, map, drop, get_or}
+use Rattle.guard_job.proofs.Common.{sym, ◌∙◌, ap, subst, arith, Err, None, AllByRecursion}
+use Rattle.guard_job.proofs.Common.{drop_more, Geometry, Counters, Banks, ChipView, Named, Instr}
+use Rattle.guard_job.proofs.Common.{Instruction, view_of, Turn, Routines, StepFault, RisesAtMost}
+use Rattle.guard_job.proofs.Common.{World, Goes, Flip, due, AreSorted, IsFlip, guarded_rows}
+use Rattle.guard_job.proofs.Common.{guarded_table, guarded_tally, guarded_turn, mended}
+use Rattle.std.proofs.lemmas.List.{drop-drop}
 use Rattle.machine_model.proofs.Parts.{all_parted}
-use Rattle.object_steps.specs.declared.fault.StepFault.{StepFault}
-use Rattle.object_steps.specs.Objects.{RisesAtMost}
-use Rattle.cli_model.specs.World.{World}
-use Rattle.cli_model.specs.Steps.{Goes}
-use Rattle.guard_model.specs.declared.Flip.{Flip}
-use Rattle.guard_model.specs.Flips.{due}
-use Rattle.guard_model.specs.FlipText.{AreSorted, IsFlip}
-use Rattle.guard_model.specs.Guarded.{guarded_rows, guarded_table, guarded_tally, guarded_turn}
-use Rattle.guard_model.specs.Guarded.{mended}
 use Rattle.guard_job.specs.Steps.{end_by, guarded_steps, instr_steps}
 use Rattle.guard_job.specs.Parts.{IsCell, Mended}
 use Rattle.guard_job.proofs.Due.{all_due, following, cells_of, lasts_of}

@@ -1,15 +1,10 @@
 -- What stands where the chip fails among flips and votes.
-use Rattle.std.proofs.Common.{◌≡◌, List, [], ◌∷◌, ◌++◌, refl, sym, ◌∙◌, ap, subst}
-use Rattle.dram_model.specs.declared.geometry.Geometry.{Geometry}
-use Rattle.dram_model.specs.Chip.{Banks, Event, after, row_in}
-use Rattle.dram_model.specs.Chip.Event.{Write}
-use Rattle.dram_model.specs.View.{ChipView, StoppedIn}
-use Rattle.transpose_unit.specs.Stopped.{StoppedWithin}
+use Rattle.guard_job.proofs.Common.{◌≡◌, List, [], ◌∷◌, ◌++◌, refl, sym, ◌∙◌, ap, subst, Geometry}
+use Rattle.guard_job.proofs.Common.{Banks, Event, after, row_in, Write, ChipView, StoppedWithin}
+use Rattle.guard_job.proofs.Common.{Named, Flip, all_flipped, flipped, with_bit_inverted}
+use Rattle.guard_job.proofs.Common.{vote_events}
+use Rattle.dram_model.specs.View.{StoppedIn}
 use Rattle.transpose_unit.proofs.Stopping.{stopped_at_event, stopped_before, stopped_later}
-use Rattle.object_alloc.specs.Listed.{Named}
-use Rattle.guard_model.specs.declared.Flip.{Flip}
-use Rattle.guard_model.specs.Flips.{all_flipped, flipped, with_bit_inverted}
-use Rattle.guard_model.specs.Votes.{vote_events}
 use Rattle.guard_model.proofs.Flips.{flip_is_write}
 use Rattle.guard_job.specs.Events.{flip_events, mend_events}
 

@@ -1,20 +1,15 @@
 -- Lines that are sent, and a chip that is used.
-use Rattle.std.proofs.Common.{◌≡◌, ℕ, ◌≤◌, Bool, true, false, List, [], ◌∷◌, ◌++◌, refl, sym, subst}
-use Rattle.std.proofs.Common.{inl}
-use Rattle.std.proofs.Common.{inr}
-use Rattle.std.specs.Prelude.{Err, Option}
-use Rattle.host_edge.specs.Views.{FolderView, SinkView, Known, AppendsPart}
+use Rattle.guard_job.proofs.Common.{◌≡◌, ℕ, ◌≤◌, Bool, true, false, List, [], ◌∷◌, ◌++◌, refl, sym}
+use Rattle.guard_job.proofs.Common.{subst, inl, inr, Err, FolderView, SinkView, Banks, Event}
+use Rattle.guard_job.proofs.Common.{ChipView, StoppedWithin, StepFault, World, world, ChipUse}
+use Rattle.guard_job.proofs.Common.{IsDoneBy, doing, Step, Goes, Done, Stopped, ChipFailed, End}
+use Rattle.std.specs.Prelude.{Option}
+use Rattle.host_edge.specs.Views.{Known, AppendsPart}
 use Rattle.faults.specs.Counts.{Rose}
-use Rattle.dram_model.specs.Chip.{Banks, Event}
-use Rattle.dram_model.specs.View.{ChipView}
-use Rattle.transpose_unit.specs.Stopped.{StoppedWithin}
-use Rattle.object_steps.specs.declared.fault.StepFault.{StepFault}
-use Rattle.object_steps.specs.declared.fault.StepFault.TheVariants as step_fault
-use Rattle.cli_model.specs.World.{World, world}
-use Rattle.cli_model.specs.Waves.{ChipUse, IsDoneBy, IsLeftBy, doing}
+use Rattle.cli_model.specs.Waves.{IsLeftBy}
 use Rattle.cli_model.proofs.Going.{stops}
-use Rattle.cli_model.specs.Steps.{Step, Use, Put, Goes, Done, Stopped, Used, Sent, Printed}
-use Rattle.cli_model.specs.Steps.{ChipFailed, PutFailed, End, PrintFailed, UseFailed}
+use Rattle.cli_model.specs.Steps.{Use, Put, Used, Sent, Printed, PutFailed, PrintFailed, UseFailed}
+use Rattle.object_steps.specs.declared.fault.StepFault.TheVariants as step_fault
 use Rattle.guard_job.specs.Steps.{end_by, line_steps}
 
 used : (files : FolderView) (s : SinkView) (a b : ChipView) → b.faults ≡ a.faults

@@ -1,20 +1,12 @@
 -- Counters of a guarded script, over one instruction and at its end.
-use Rattle.std.proofs.Common.{◌≡◌, ℕ, ◌+◌, Bool, true, false, cond, List, [], ◌∷◌, ◌++◌, length}
-use Rattle.std.proofs.Common.{refl}
-use Rattle.std.proofs.Common.{sym, ◌∙◌, ap, arith}
-use Rattle.std.specs.Prelude.{count_by}
+use Rattle.guard_job.proofs.Common.{◌≡◌, ℕ, ◌+◌, Bool, true, false, cond, List, [], ◌∷◌, ◌++◌}
+use Rattle.guard_job.proofs.Common.{length, refl, sym, ◌∙◌, ap, arith, count_by, Counters, Geometry}
+use Rattle.guard_job.proofs.Common.{Named, Instruction, Routines, Flip, vote_count, guarded_table}
+use Rattle.guard_job.proofs.Common.{guarded_tally, plain_script}
 use Rattle.std.proofs.lemmas.List.Recursion.{is_count_by}
-use Rattle.dram_model.specs.declared.dram.Counters.{Counters}
-use Rattle.dram_model.specs.declared.geometry.Geometry.{Geometry}
 use Rattle.uprog_code.specs.declared.walker.Counts.{Counts}
-use Rattle.object_alloc.specs.Listed.{Named}
-use Rattle.bbop_isa.specs.Forms.{Instruction}
-use Rattle.machine_model.specs.Routines.{Routines}
 use Rattle.machine_model.specs.Script.{replies, rows_loaded, rows_printed, sum_of}
 use Rattle.machine_model.proofs.Parts.{scripts_go_on, sum_append}
-use Rattle.guard_model.specs.declared.Flip.{Flip}
-use Rattle.guard_model.specs.Votes.{vote_count}
-use Rattle.guard_model.specs.Guarded.{guarded_table, guarded_tally, plain_script}
 use Rattle.guard_model.specs.Guarded.{whole_script}
 use Rattle.guard_job.specs.Parts.{instr_tally, mended_tally}
 

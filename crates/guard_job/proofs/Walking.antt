@@ -1,25 +1,13 @@
 -- One instruction of a guarded script was done, and the others are left.
-use Rattle.std.proofs.Common.{◌≡◌, ℕ, ◌+◌, List, ◌∷◌, length, sym, ◌∙◌, ap, subst}
-use Rattle.std.proofs.Common.{arith}
-use Rattle.std.specs.Prelude.{None, count_by}
-use Rattle.host_edge.specs.Views.{FolderView, SinkView}
-use Rattle.dram_model.specs.declared.geometry.Geometry.{Geometry}
-use Rattle.dram_model.specs.Chip.{Banks, Event, Grew}
-use Rattle.dram_model.specs.View.{ChipView}
-use Rattle.dram_model.proofs.EventLaws.{Grew-more}
-use Rattle.object_alloc.specs.Listed.{Named}
-use Rattle.bbop_isa.specs.Forms.{Instruction}
-use Rattle.wave_model.specs.Schedule.{Turn}
-use Rattle.machine_model.specs.Routines.{Program, Routines, routines_in}
-use Rattle.machine_model.specs.Script.{is_refused}
-use Rattle.cli_model.specs.World.{World, world}
-use Rattle.cli_model.specs.Steps.{Step, End, Done, Goes}
+use Rattle.guard_job.proofs.Common.{◌≡◌, ℕ, ◌+◌, List, ◌∷◌, length, sym, ◌∙◌, ap, subst, arith}
+use Rattle.guard_job.proofs.Common.{None, count_by, FolderView, SinkView, Geometry, Banks, Event}
+use Rattle.guard_job.proofs.Common.{Grew, ChipView, Grew-more, Named, Instruction, Turn, Routines}
+use Rattle.guard_job.proofs.Common.{is_refused, World, world, Step, End, Done, Goes, Flip, due}
+use Rattle.guard_job.proofs.Common.{guarded_reply, guarded_replies, guarded_rows}
+use Rattle.guard_job.proofs.Common.{guarded_rows_at_end, guarded_table, guarded_table_at_end}
+use Rattle.guard_job.proofs.Common.{guarded_tally, guarded_turn, mended, votes_at_end}
+use Rattle.machine_model.specs.Routines.{Program, routines_in}
 use Rattle.cli_model.proofs.Going.{goes_on}
-use Rattle.guard_model.specs.declared.Flip.{Flip}
-use Rattle.guard_model.specs.Flips.{due}
-use Rattle.guard_model.specs.Guarded.{guarded_reply, guarded_replies, guarded_rows}
-use Rattle.guard_model.specs.Guarded.{guarded_rows_at_end, guarded_table, guarded_table_at_end}
-use Rattle.guard_model.specs.Guarded.{guarded_tally, guarded_turn, mended, votes_at_end}
 use Rattle.guard_job.specs.Events.{instr_events, run_events}
 use Rattle.guard_job.specs.Steps.{guarded_steps, instr_steps}
 use Rattle.guard_job.specs.Parts.{InstrDone}

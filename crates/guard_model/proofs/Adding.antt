@@ -1,7 +1,6 @@
 -- What an accepted script adds has a name.
-use Rattle.std.proofs.Common.{List, [], ◌∷◌}
-use Rattle.std.specs.List.{AllByRecursion}
-use Rattle.bbop_isa.specs.Forms.{Instruction, Init, Bbop, Load, Fill, Print, Free, Order}
+use Rattle.guard_model.proofs.Common.{List, [], ◌∷◌, AllByRecursion, Instruction, Init, Bbop, Load}
+use Rattle.guard_model.proofs.Common.{Fill, Print, Free, Order}
 use Rattle.bbop_isa.specs.Laws.{IsRight}
 use Rattle.machine_model.proofs.Accepted.{accepted_is_right}
 use Rattle.guard_model.specs.Laws.{HasName, AcceptedHasNames}

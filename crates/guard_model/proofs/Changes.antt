@@ -1,29 +1,20 @@
 -- The guarded step of trios, for the instructions that add or remove objects, and for the rest.
-use Rattle.std.proofs.Common.{◌≡◌, ℕ, ◌*◌, Bool, true, false, not, ◌||◌, cond, eqb, List, [], ◌∷◌}
-use Rattle.std.proofs.Common.{◌++◌, map, length, Option, Some, None, refl, sym, ◌∙◌, ap, inl, inr}
-use Rattle.std.proofs.Common.{◌⊎◌, append_assoc, append-nil}
-use Rattle.std.specs.Prelude.{replicate, filter, is_none, nat_lt, nat_le}
+use Rattle.guard_model.proofs.Common.{or_parts, ◌≡◌, ℕ, ◌*◌, Bool, true, false, not, ◌||◌, cond}
+use Rattle.guard_model.proofs.Common.{eqb, List, [], ◌∷◌, ◌++◌, map, length, Option, Some, None}
+use Rattle.guard_model.proofs.Common.{refl, sym, ◌∙◌, ap, inl, inr, ◌⊎◌, replicate, filter, is_none}
+use Rattle.guard_model.proofs.Common.{nat_lt, bytes_eq, map-append, fits_name, Geometry}
+use Rattle.guard_model.proofs.Common.{column_count, Object, free, Named, has_name, limit_of, Place}
+use Rattle.guard_model.proofs.Common.{Instruction, Init, Bbop, Load, Fill, Print, Free, Order, Why}
+use Rattle.guard_model.proofs.Common.{object_size, Routines, refusal, when, Held, table_of, worded}
+use Rattle.guard_model.proofs.Common.{tabled, words_at_end, is_refused, replies, bytes_same}
+use Rattle.std.proofs.Common.{append_assoc, append-nil}
+use Rattle.std.specs.Prelude.{nat_le}
 use Rattle.std.specs.List.{list_any}
-use Rattle.std.specs.Str.{bytes_eq}
-use Rattle.std.proofs.lemmas.List.{map-append}
-use Rattle.text_lex.specs.Spelled.{fits_name}
-use Rattle.dram_model.specs.declared.geometry.Geometry.{Geometry}
-use Rattle.dram_model.specs.Elements.{column_count}
-use Rattle.object_alloc.specs.declared.table.Object.{Object}
-use Rattle.object_alloc.specs.Free.{free}
-use Rattle.object_alloc.specs.Listed.{Named, has_name, without, objects_of, limit_of}
-use Rattle.bbop_isa.specs.declared.instr.Place.{Place}
-use Rattle.bbop_isa.specs.Forms.{Instruction, Init, Bbop, Load, Fill, Print, Free, Order}
+use Rattle.object_alloc.specs.Listed.{without, objects_of}
 use Rattle.bbop_isa.specs.declared.instr.Order.{Order as Orders}
-use Rattle.machine_model.specs.declared.Why.{Why}
-use Rattle.machine_model.specs.declared.Why.TheVariants as why
-use Rattle.machine_model.specs.Columns.{object_size}
-use Rattle.machine_model.specs.Routines.{Routines}
-use Rattle.machine_model.specs.Refusals.{refusal, when}
-use Rattle.machine_model.specs.Steps.{Held, table_of, new_object, base_for, worded, tabled}
-use Rattle.machine_model.specs.Script.{words_at_end, is_refused, replies}
+use Rattle.machine_model.specs.Steps.{new_object, base_for}
 use Rattle.machine_model.proofs.Facts.{first_none, when_none}
-use Rattle.machine_model.proofs.Places.{bytes_same}
+use Rattle.machine_model.specs.declared.Why.TheVariants as why
 use Rattle.guard_model.specs.Triples.{x_letter, y_letter, z_letter}
 use Rattle.guard_model.specs.Guarded.{place_on, plain_script, guarded_reply, joined, done_ones}
 use Rattle.guard_model.specs.Guarded.{adds}
@@ -215,15 +206,11 @@ named_append : (ts : List Trio) (t : Trio) → HaveNames ts → fits_name t.name
 named_append [] t h f = (f, tt)
 named_append (u ∷ ts) t h f = (h.0, named_append ts t h.1 f)
 
-or_false_right : (a b : Bool) → (a || b) ≡ false → (a ≡ false) × (b ≡ false)
-or_false_right true b h = cc
-or_false_right false b h = (refl, h)
-
 -- where no object has the name, all stay
 none_gone : (state : List Held) (name : List ℕ) → has_name (table_of state) name ≡ false → filter
     (keep name) state ≡ state
 none_gone [] name h = refl
-none_gone (h' ∷ state) name h = let both = or_false_right (bytes_eq h'.name name)
+none_gone (h' ∷ state) name h = let both = or_parts (bytes_eq h'.name name)
     (has_name (table_of state) name) h in rw both.0 (ap (λ r. h' ∷ r) (none_gone state name both.1))
 
 filter_case : (x : Held) (b : Bool) (f r ys : List Held) → f ≡ r ++ ys → cond b (x ∷ f) f ≡ cond b

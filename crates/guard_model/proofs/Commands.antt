@@ -1,13 +1,11 @@
 -- The commands of votes.
-use Rattle.std.proofs.Common.{◌≡◌, ℕ, zero, suc, ◌+◌, ◌*◌, [], ◌∷◌, refl, ◌∙◌, ap, arith}
-use Rattle.std.specs.List.{range_with_len, flat_map}
-use mathlib.Core.Path.{fun_ext}
-use Rattle.dram_model.specs.declared.dram.Counters.{Counters}
-use Rattle.dram_model.specs.Chip.{Banks, after, all_counted}
+use Rattle.guard_model.proofs.Common.{◌≡◌, ℕ, zero, suc, ◌+◌, ◌*◌, [], ◌∷◌, refl, ◌∙◌, ap, arith}
+use Rattle.guard_model.proofs.Common.{range_with_len, flat_map, fun_ext, Counters, Banks, segments}
+use Rattle.guard_model.proofs.Common.{through}
+use Rattle.dram_model.specs.Chip.{after, all_counted}
 use Rattle.dram_model.specs.Events.{row_events}
 use Rattle.dram_model.proofs.EventLaws.{after-append, all_counted-append}
-use Rattle.machine_model.specs.Columns.{segments}
-use Rattle.machine_model.specs.Steps.{job_events, through}
+use Rattle.machine_model.specs.Steps.{job_events}
 use Rattle.wave_model.specs.Schedule.{WaveJob}
 use Rattle.machine_model.proofs.Fills.{through_bank}
 use Rattle.guard_model.specs.Votes.{votes, vote_job, vote_events, vote_count}

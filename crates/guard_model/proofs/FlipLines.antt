@@ -1,21 +1,16 @@
 -- The text of the flips, line by line.
-use Rattle.std.proofs.Common.{◌≡◌, ℕ, suc, ◌+◌, ◌*◌, ◌<◌, ◌≤◌, Bool, true, false, ◌&&◌, cond}
-use Rattle.std.proofs.Common.{leb, ltb, List, [], ◌∷◌, ◌++◌, length, map, Option, Some, None, refl}
-use Rattle.std.proofs.Common.{sym, ◌∙◌, ap, subst, arith}
-use Rattle.std.specs.Prelude.{Result, Ok, Err}
-use Rattle.std.specs.List.{flat_map}
+use Rattle.guard_model.proofs.Common.{◌≡◌, ℕ, suc, ◌+◌, ◌*◌, ◌<◌, ◌≤◌, Bool, true, false, ◌&&◌}
+use Rattle.guard_model.proofs.Common.{cond, leb, ltb, List, [], ◌∷◌, ◌++◌, length, map, Option}
+use Rattle.guard_model.proofs.Common.{Some, None, refl, sym, ◌∙◌, ap, subst, arith, Result, Ok, Err}
+use Rattle.guard_model.proofs.Common.{flat_map, nat_tests, items_of, Geometry, lines_of, Word}
+use Rattle.guard_model.proofs.Common.{words_in, number_or_zero}
 use Rattle.std.specs.Option.{option_to_list}
-use Rattle.std.proofs.lemmas.Bool.Decides.{nat_tests}
-use Rattle.text_lex.specs.Lexical.{items_of}
-use Rattle.dram_model.specs.declared.geometry.Geometry.{Geometry}
-use Rattle.bbop_isa.specs.Lines.{lines_of}
-use Rattle.bbop_isa.specs.Words.{Word, Name, Number, Comma, Open, Colon, Close, Other, words_in}
+use Rattle.bbop_isa.specs.Words.{Name, Number, Comma, Open, Colon, Close, Other}
 use Rattle.bbop_isa.proofs.Kinded.{none_any, any_none}
 use Rattle.guard_model.specs.declared.Flip.{Flip}
 use Rattle.guard_model.specs.declared.FlipsKind.{FlipsKind}
 use Rattle.guard_model.specs.declared.FlipsKind.TheVariants.{Lex, Syntax, Number as BadNumber}
 use Rattle.guard_model.specs.declared.FlipsFault.{FlipsFault}
-use Rattle.bbop_isa.specs.Forms.{number_or_zero}
 use Rattle.guard_model.specs.FlipText.{is_below, is_next, flip_of, with_number, numbers_of}
 use Rattle.guard_model.specs.FlipText.{flip_by, flip_in, with_flip, and_rest, flips_from, IsFlip}
 use Rattle.guard_model.specs.FlipText.{AreSorted}

@@ -1,13 +1,10 @@
 -- What flips leave.
-use Rattle.std.proofs.Common.{◌≡◌, ℕ, zero, suc, Bool, true, false, not, ◌&&◌, cond, eqb, List, []}
-use Rattle.std.proofs.Common.{◌∷◌, length, get_or, refl, ◌∙◌, ap, inl, inr}
-use Rattle.std.proofs.lemmas.Bool.Decides.{eqb_tells}
-use mathlib.Core.Path.{fun_ext}
-use Rattle.dram_model.specs.declared.address.Cell.TheVariants.{D}
-use Rattle.dram_model.specs.Column.{Column, blank, plain}
-use Rattle.dram_model.specs.Chip.{Banks, row_in, with_row}
+use Rattle.guard_model.proofs.Common.{or_parts, ◌≡◌, ℕ, zero, suc, Bool, true, false, not, ◌&&◌}
+use Rattle.guard_model.proofs.Common.{cond, eqb, List, [], ◌∷◌, length, get_or, refl, ◌∙◌, ap, inl}
+use Rattle.guard_model.proofs.Common.{inr, eqb_tells, fun_ext, D, Column, blank, Banks}
+use Rattle.dram_model.specs.Column.{plain}
+use Rattle.dram_model.specs.Chip.{row_in, with_row}
 use Rattle.dram_model.proofs.ColumnLaws.{drive-other, refresh}
-use Rattle.machine_model.proofs.Merged.{or_false}
 use Rattle.guard_model.specs.declared.Flip.{Flip}
 use Rattle.guard_model.specs.Flips.{with_bit_inverted, inverted, inverted_at, flipped, all_flipped}
 use Rattle.guard_model.specs.Flips.{hits, is_hit}
@@ -58,7 +55,7 @@ pub not_hit : (flips : List Flip) (banks : Banks) (bank c r : ℕ) → is_hit fl
     → get_or (all_flipped flips banks bank) c blank (D r) ≡ get_or (banks bank) c blank (D r)
 not_hit [] banks bank c r h = refl
 not_hit (f ∷ flips) banks bank c r h =
-    let both = or_false (hits bank c r f) (is_hit flips bank c r) h in
+    let both = or_parts (hits bank c r f) (is_hit flips bank c r) h in
     not_hit flips (flipped f banks) bank c r both.1
     ∙ hit_case f c r (banks bank) (eqb f.bank bank) both.0
 

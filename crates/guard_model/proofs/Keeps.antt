@@ -1,19 +1,11 @@
 -- The guarded step of trios, for the instructions on objects that stand.
-use Rattle.std.proofs.Common.{◌≡◌, ℕ, true, false, cond, List, [], ◌∷◌, map, Option, Some}
-use Rattle.std.proofs.Common.{None, refl, sym, ◌∙◌, ap, inl, inr, ◌⊎◌}
-use Rattle.std.specs.Prelude.{replicate, slice_index}
-use Rattle.dram_model.specs.declared.geometry.Geometry.{Geometry}
-use Rattle.bbop_isa.specs.declared.instr.Place.{Place}
-use Rattle.bbop_isa.specs.Forms.{Instruction, Bbop, Load, Fill}
-use Rattle.machine_model.specs.declared.Why.{Why}
-use Rattle.machine_model.specs.Columns.{object_size}
-use Rattle.dram_model.specs.Elements.{padded_to}
-use Rattle.machine_model.specs.Routines.{Routines}
-use Rattle.machine_model.specs.Places.{seen}
-use Rattle.machine_model.specs.Refusals.{refusal, rows_of}
-use Rattle.machine_model.specs.Steps.{Held, table_of, numbers_named, numbers_at, computed, worded}
-use Rattle.machine_model.specs.Steps.{tabled, with_results, new_numbers, dsts_of, srcs_of}
-use Rattle.machine_model.specs.Script.{words_at_end, is_refused, replies}
+use Rattle.guard_model.proofs.Common.{◌≡◌, ℕ, true, false, cond, List, [], ◌∷◌, map, Option, Some}
+use Rattle.guard_model.proofs.Common.{None, refl, sym, ◌∙◌, ap, inl, inr, ◌⊎◌, replicate}
+use Rattle.guard_model.proofs.Common.{slice_index, Geometry, Place, Instruction, Bbop, Load, Fill}
+use Rattle.guard_model.proofs.Common.{Why, object_size, padded_to, Routines, seen, refusal, rows_of}
+use Rattle.guard_model.proofs.Common.{Held, table_of, numbers_named, numbers_at, computed, worded}
+use Rattle.guard_model.proofs.Common.{tabled, with_results, new_numbers, dsts_of, srcs_of}
+use Rattle.guard_model.proofs.Common.{words_at_end, is_refused, replies}
 use Rattle.guard_model.specs.Triples.{x_letter, y_letter, z_letter}
 use Rattle.guard_model.specs.Guarded.{plain_ones, plain_script, guarded_reply}
 use Rattle.guard_model.specs.Guarded.{joined, adds, place_on}

@@ -1,30 +1,20 @@
 -- Objects that are alike in one element, where it is whole; the word machine keeps them so,
 -- wherever they lie.
-use Rattle.std.proofs.Common.{◌≡◌, ℕ, zero, suc, ◌+◌, Bool, true, false, not, ◌&&◌, ◌||◌, cond}
-use Rattle.std.proofs.Common.{List, [], ◌∷◌, ◌++◌, length, get_or, map, Option, Some, None, refl}
-use Rattle.std.proofs.Common.{sym, ◌∙◌, ap, subst, arith}
-use Rattle.std.specs.Prelude.{filter, is_none, replicate, slice_index, take}
-use Rattle.std.specs.List.{find, list_all, range_with_len}
-use Rattle.std.specs.Option.{option_map, unwrap_or}
-use Rattle.std.specs.Str.{bytes_eq}
-use Rattle.std.proofs.lemmas.List.{length-map}
-use Rattle.dram_model.specs.declared.geometry.Geometry.{Geometry}
-use Rattle.dram_model.specs.Elements.{padded_to, size_of}
-use Rattle.object_alloc.specs.declared.table.Object.{Object}
-use Rattle.object_alloc.specs.Listed.{Named}
-use Rattle.bbop_isa.specs.declared.instr.Part.{Part}
-use Rattle.bbop_isa.specs.declared.instr.Place.{Place}
-use Rattle.bbop_isa.specs.Forms.{Instruction, Init, Bbop, Load, Fill, Print, Free, Order}
-use Rattle.machine_model.specs.Columns.{object_size}
-use Rattle.machine_model.specs.Places.{put, put_all, seen}
-use Rattle.machine_model.specs.Refusals.{object_named, rows_of, nothing}
-use Rattle.machine_model.specs.Routines.{Routines}
-use Rattle.machine_model.specs.Steps.{Held, table_of, numbers_named, numbers_at, computed, worded}
-use Rattle.machine_model.specs.Steps.{with_results, new_numbers, dsts_of, srcs_of}
-use Rattle.machine_model.proofs.Bbops.{part_count}
-use Rattle.machine_model.proofs.Places.{same_bytes}
+use Rattle.guard_model.proofs.Common.{and_parts, ◌≡◌, ℕ, zero, suc, ◌+◌, Bool, true, false, not}
+use Rattle.guard_model.proofs.Common.{◌&&◌, ◌||◌, cond, List, [], ◌∷◌, ◌++◌, length, get_or, map}
+use Rattle.guard_model.proofs.Common.{Option, Some, None, refl, sym, ◌∙◌, ap, subst, arith, filter}
+use Rattle.guard_model.proofs.Common.{is_none, replicate, slice_index, take, find, list_all}
+use Rattle.guard_model.proofs.Common.{range_with_len, option_map, unwrap_or, bytes_eq, length-map}
+use Rattle.guard_model.proofs.Common.{Geometry, padded_to, Object, Named, Part, Place, Instruction}
+use Rattle.guard_model.proofs.Common.{Init, Bbop, Load, Fill, Print, Free, Order, object_size}
+use Rattle.guard_model.proofs.Common.{put_all, seen, object_named, rows_of, nothing, Routines, Held}
+use Rattle.guard_model.proofs.Common.{table_of, numbers_named, numbers_at, computed, worded}
+use Rattle.guard_model.proofs.Common.{with_results, new_numbers, dsts_of, srcs_of, part_count}
+use Rattle.guard_model.proofs.Common.{same_bytes}
+use Rattle.dram_model.specs.Elements.{size_of}
+use Rattle.machine_model.specs.Places.{put}
 use Rattle.guard_model.specs.Survival.{Whole, whole_done, whole_written}
-use Rattle.guard_model.proofs.Trios.{and_both, unplaced}
+use Rattle.guard_model.proofs.Trios.{unplaced}
 
 -- numbers that are as many, and where this holds the same in one element
 abbrev pub AreLike : ℕ → Bool → List ℕ → List ℕ → Type 0
@@ -205,7 +195,7 @@ written_case : (at : ℕ) (right was b : Bool) (part : Option Part) (xs ys rs ss
 written_case at right was true part xs ys rs ss a r = (
   put_size part xs ys rs ss a.0 r.0,
   λ e.
-      let both = and_both right (is_none part || was) e in
+      let both = and_parts right (is_none part || was) e in
       put_at part was at xs ys rs ss a.0 r.0 both.1 a.1 (r.1 both.0),
 )
 written_case at right was false part xs ys rs ss a r = a
@@ -254,7 +244,7 @@ sources_like : (at : ℕ) (whole : Whole) (hs os : List Held) (places : List Pla
     ≡ map (λ (ns : List ℕ). slice_index ns at) (map (numbers_at os) places)
 sources_like at whole hs os [] a e = refl
 sources_like at whole hs os (p ∷ places) a e =
-    let both = and_both (whole p.name) (list_all (λ (p : Place). whole p.name) places) e in
+    let both = and_parts (whole p.name) (list_all (λ (p : Place). whole p.name) places) e in
     cons_same _ _ _ _ ((place_like at whole hs os p a).1 both.0)
     (sources_like at whole hs os places a both.1)
 

@@ -1,25 +1,17 @@
 -- What flips and votes leave: the copies are equal, and elements that survive are as they were.
-use Rattle.std.proofs.Common.{◌≡◌, ◌≢◌, ℕ, zero, suc, ◌+◌, ◌-◌, ◌*◌, ◌<◌, ◌≤◌, Bool, true, false}
-use Rattle.std.proofs.Common.{not, ◌&&◌, ◌||◌, cond, ltb, List, [], ◌∷◌, ◌++◌, length, get_or, map}
-use Rattle.std.proofs.Common.{refl, sym, ◌∙◌, ap, subst, arith, inl, inr}
-use Rattle.std.specs.List.{AllByRecursion, range_with_len, flat_map, list_all}
-use Rattle.std.specs.Str.{bytes_eq}
-use Rattle.std.proofs.lemmas.Bool.{cases_lt, lt-ltb}
-use Rattle.std.proofs.lemmas.List.{length-map, get_or-map, map-append, ext_get_or}
-use Rattle.std.proofs.lemmas.List.{get_or-append_right}
+use Rattle.guard_model.proofs.Common.{and_parts, ◌≡◌, ◌≢◌, ℕ, zero, suc, ◌+◌, ◌*◌, ◌<◌, ◌≤◌, Bool}
+use Rattle.guard_model.proofs.Common.{true, false, not, ◌&&◌, ◌||◌, cond, ltb, List, [], ◌∷◌, ◌++◌}
+use Rattle.guard_model.proofs.Common.{length, get_or, map, refl, sym, ◌∙◌, ap, subst, arith, inl}
+use Rattle.guard_model.proofs.Common.{inr, AllByRecursion, range_with_len, flat_map, list_all}
+use Rattle.guard_model.proofs.Common.{bytes_eq, cases_lt, length-map, map-append, D, Geometry}
+use Rattle.guard_model.proofs.Common.{majority, Column, run, blank, Banks, below, column_count}
+use Rattle.guard_model.proofs.Common.{number, Object, Named, segments, columns, Held, table_of}
+use Rattle.guard_model.proofs.Common.{through, bytes_same}
+use Rattle.std.proofs.Common.{◌-◌}
+use Rattle.std.proofs.lemmas.Bool.{lt-ltb}
+use Rattle.std.proofs.lemmas.List.{get_or-map, ext_get_or, get_or-append_right}
 use Rattle.std.proofs.lemmas.Nat.{mul-le}
-use Rattle.dram_model.specs.declared.address.Cell.TheVariants.{D}
-use Rattle.dram_model.specs.declared.geometry.Geometry.{Geometry}
-use Rattle.bit_rows.specs.Bits.{majority}
-use Rattle.dram_model.specs.Column.{Column, run, blank}
-use Rattle.dram_model.specs.Chip.{Banks}
-use Rattle.dram_model.specs.Elements.{below, column_count, number}
-use Rattle.object_alloc.specs.declared.table.Object.{Object}
-use Rattle.object_alloc.specs.Listed.{Named}
-use Rattle.machine_model.specs.Columns.{segments, columns}
-use Rattle.machine_model.specs.Steps.{Held, table_of, through}
 use Rattle.machine_model.proofs.Below.{below_length}
-use Rattle.machine_model.proofs.Places.{bytes_same}
 use Rattle.machine_model.proofs.Steps.{through_length}
 use Rattle.guard_model.specs.declared.Flip.{Flip}
 use Rattle.guard_model.specs.Flips.{all_flipped, is_hit, survives}
@@ -29,7 +21,7 @@ use Rattle.guard_model.specs.Votes.{votes, vote_job, voted}
 use Rattle.guard_model.proofs.Flips.{flips_length, not_hit}
 use Rattle.guard_model.proofs.Likes.{AllLike, Like, weaken}
 use Rattle.guard_model.proofs.Numbers.{bits_of_number, number_of_bits}
-use Rattle.guard_model.proofs.Trios.{Trio, place, spread, Separate, TriosApart, OutOf, and_both}
+use Rattle.guard_model.proofs.Trios.{Trio, place, spread, Separate, TriosApart, OutOf}
 use Rattle.guard_model.proofs.Votes.{RowsApart, Voted, most, most_of, votes_others, votes_own}
 
 abbrev pub at : Banks → ℕ → ℕ → Column
@@ -222,7 +214,7 @@ range_holds : (p : ℕ → Bool) (a n k : ℕ) → list_all p (range_with_len a 
     → k < a + n → p k ≡ true
 range_holds p a zero k h l m = absurd (omega arith)
 range_holds p a (suc n) k h l m =
-    let both = and_both (p a) (list_all p (range_with_len (a + 1) n)) h in
+    let both = and_parts (p a) (list_all p (range_with_len (a + 1) n)) h in
     elim (cases_lt a k) [
       | inl lt ↦ range_holds p (a + 1) n k both.1 (omega arith) (omega arith)
       | inr ge ↦ let e : a ≡ k = omega arith in subst (λ j. p j ≡ true) e both.0
@@ -392,10 +384,10 @@ head_kept : (flips : List Flip) (spot : Spot) (t : Trio) (ts : List Trio) (whole
     → (whole name ≡ true)
     × (survives flips spot.bank spot.column (place t t.x) (place t t.y) (place t t.z) ≡ true)
 head_kept flips spot t ts whole name e h =
-    let a = and_both (whole name) (survives_in flips spot (table_of (spread (t ∷ ts))) name) h in
+    let a = and_parts (whole name) (survives_in flips spot (table_of (spread (t ∷ ts))) name) h in
     let is = bytes_eq (x_letter ∷ t.name) (x_letter ∷ name) in
     let safe = survives flips spot.bank spot.column (place t t.x) (place t t.y) (place t t.z) in
-    let b = and_both (not is || safe) (survives_in flips spot (table_of (spread ts)) name) a.1 in (
+    let b = and_parts (not is || safe) (survives_in flips spot (table_of (spread ts)) name) a.1 in (
       a.0,
       named_case is safe (bytes_same (x_letter ∷ t.name) (x_letter ∷ name)
           (ap (λ n. x_letter ∷ n) e)) b.0,
@@ -405,10 +397,10 @@ rest_kept : (flips : List Flip) (spot : Spot) (t : Trio) (ts : List Trio) (whole
     (name : List ℕ) → Kept flips spot (table_of (spread (t ∷ ts))) whole name ≡ true
     → Kept flips spot (table_of (spread ts)) whole name ≡ true
 rest_kept flips spot t ts whole name h =
-    let a = and_both (whole name) (survives_in flips spot (table_of (spread (t ∷ ts))) name) h in
+    let a = and_parts (whole name) (survives_in flips spot (table_of (spread (t ∷ ts))) name) h in
     let is = bytes_eq (x_letter ∷ t.name) (x_letter ∷ name) in
     let safe = survives flips spot.bank spot.column (place t t.x) (place t t.y) (place t t.z) in
-    let b = and_both (not is || safe) (survives_in flips spot (table_of (spread ts)) name) a.1 in
+    let b = and_parts (not is || safe) (survives_in flips spot (table_of (spread ts)) name) a.1 in
     rw (a.0, b.1) refl
 
 pub all_kept : (g : Geometry) (flips : List Flip) (old new : Banks) (spot : Spot) (whole : Whole)

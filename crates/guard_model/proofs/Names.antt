@@ -1,19 +1,11 @@
 -- What is found under the name of a copy.
-use Rattle.std.proofs.Common.{◌≡◌, ℕ, Bool, true, false, not, ◌||◌, ◌&&◌, ◌+◌, cond, eqb, List, []}
-use Rattle.std.proofs.Common.{◌∷◌, map, Option, Some, None, refl, sym, ◌∙◌, ap}
-use Rattle.std.specs.Prelude.{nat_lt}
-use Rattle.std.specs.List.{find}
-use Rattle.std.specs.Option.{option_map, unwrap_or}
-use Rattle.std.specs.Str.{bytes_eq}
-use Rattle.object_alloc.specs.declared.table.Object.{Object}
-use Rattle.object_alloc.specs.Listed.{Named, has_name}
-use Rattle.bbop_isa.specs.declared.instr.Part.{Part}
-use Rattle.bbop_isa.specs.declared.instr.Place.{Place}
-use Rattle.machine_model.specs.Places.{cut, is_past, put_all}
-use Rattle.machine_model.specs.Refusals.{object_named, rows_of, goes_past, nothing, is_absent}
-use Rattle.machine_model.specs.Steps.{Held, table_of, numbers_named, new_numbers}
-use Rattle.machine_model.proofs.Bbops.{part_count}
-use Rattle.machine_model.proofs.Places.{same_bytes}
+use Rattle.guard_model.proofs.Common.{◌≡◌, ℕ, Bool, true, false, not, ◌||◌, ◌&&◌, ◌+◌, cond, eqb}
+use Rattle.guard_model.proofs.Common.{List, [], ◌∷◌, map, Option, Some, None, refl, sym, ◌∙◌, ap}
+use Rattle.guard_model.proofs.Common.{nat_lt, find, option_map, unwrap_or, bytes_eq, Object, Named}
+use Rattle.guard_model.proofs.Common.{has_name, Part, Place, put_all, object_named, rows_of}
+use Rattle.guard_model.proofs.Common.{goes_past, nothing, is_absent, Held, table_of, numbers_named}
+use Rattle.guard_model.proofs.Common.{new_numbers, part_count, same_bytes}
+use Rattle.machine_model.specs.Places.{cut, is_past}
 use Rattle.guard_model.specs.Guarded.{place_on}
 use Rattle.guard_model.specs.Triples.{x_letter, y_letter, z_letter}
 use Rattle.guard_model.proofs.Trios.{Trio, copy, spread, alone}

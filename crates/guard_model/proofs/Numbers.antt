@@ -1,10 +1,7 @@
 -- Rows and the numbers that they spell.
-use Rattle.std.proofs.Common.{◌≡◌, ℕ, zero, suc, ◌+◌, ◌*◌, ◌<◌, Bool, true, false, refl, sym, ◌∙◌}
-use Rattle.std.proofs.Common.{ap, arith}
-use Rattle.dram_model.specs.declared.address.Cell.TheVariants.{D}
+use Rattle.guard_model.proofs.Common.{◌≡◌, ℕ, zero, suc, ◌+◌, ◌*◌, ◌<◌, Bool, true, false, refl}
+use Rattle.guard_model.proofs.Common.{sym, ◌∙◌, ap, arith, D, Column, number}
 use Rattle.bit_rows.specs.Bits.{bit_number}
-use Rattle.dram_model.specs.Column.{Column}
-use Rattle.dram_model.specs.Elements.{number}
 
 bits_same : (p q : Bool) (u v : ℕ) → bit_number p + 2 * u ≡ bit_number q + 2 * v → (p ≡ q) × (u ≡ v)
 bits_same true true u v e = (refl, omega arith)

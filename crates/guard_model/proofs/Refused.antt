@@ -1,24 +1,19 @@
 -- The refusals of the three copies are one.
-use Rattle.std.proofs.Common.{◌≡◌, ℕ, suc, ◌^◌, Bool, true, not, eqb, leb, List, [], ◌∷◌, ◌++◌}
-use Rattle.std.proofs.Common.{length, map, Option, Some, None, refl, ◌∙◌, ap, arith}
+use Rattle.guard_model.proofs.Common.{◌≡◌, ℕ, suc, Bool, true, not, eqb, leb, List, [], ◌∷◌, ◌++◌}
+use Rattle.guard_model.proofs.Common.{length, map, Option, Some, None, refl, ◌∙◌, ap, arith, take}
+use Rattle.guard_model.proofs.Common.{zero, Geometry, Object, Named, limit_of, Place, Load, Fill}
+use Rattle.guard_model.proofs.Common.{Free, Why, Routines, when, rows_of, goes_past, is_absent}
+use Rattle.guard_model.proofs.Common.{refusal, dsts_of, srcs_of}
+use Rattle.std.proofs.Common.{◌^◌}
 use Rattle.std.specs.List.{zip}
-use Rattle.std.specs.Prelude.{take, drop}
-use Rattle.std.proofs.Common.{zero}
-use Rattle.dram_model.specs.declared.geometry.Geometry.{Geometry}
+use Rattle.std.specs.Prelude.{drop}
 use Rattle.op_text.specs.declared.tree.Kind.{Kind}
 use Rattle.uprog_code.specs.Shape.{width, results}
-use Rattle.object_alloc.specs.declared.table.Object.{Object}
-use Rattle.object_alloc.specs.Listed.{Named, limit_of}
-use Rattle.bbop_isa.specs.declared.instr.Place.{Place}
-use Rattle.bbop_isa.specs.Forms.{Load, Fill, Free}
-use Rattle.machine_model.specs.declared.Why.{Why}
-use Rattle.machine_model.specs.declared.Why.TheVariants as why
-use Rattle.machine_model.specs.Routines.{Routine, Routines}
-use Rattle.machine_model.specs.Refusals.{first, when, at_place, rows_of, goes_past, is_absent}
-use Rattle.machine_model.specs.Refusals.{is_misfit, refusal, bbop_refusal, bbop_conditions}
+use Rattle.machine_model.specs.Routines.{Routine}
+use Rattle.machine_model.specs.Refusals.{first, at_place, is_misfit, bbop_refusal, bbop_conditions}
 use Rattle.machine_model.specs.Refusals.{operand_conditions, grant_conditions, meets_one}
 use Rattle.machine_model.specs.Refusals.{meet_before}
-use Rattle.machine_model.specs.Steps.{dsts_of, srcs_of}
+use Rattle.machine_model.specs.declared.Why.TheVariants as why
 use Rattle.guard_model.specs.Guarded.{place_on}
 use Rattle.guard_model.proofs.Names.{IsLike}
 

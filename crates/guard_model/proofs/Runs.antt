@@ -1,19 +1,15 @@
 -- A list of plain instructions, up to the first that is refused.
-use Rattle.std.proofs.Common.{◌≡◌, ℕ, Bool, true, false, cond, List, [], ◌∷◌, ◌++◌, Option, Some}
-use Rattle.std.proofs.Common.{None, refl, sym, ◌∙◌, ap, subst}
+use Rattle.guard_model.proofs.Common.{◌≡◌, ℕ, Bool, true, false, cond, List, [], ◌∷◌, ◌++◌, Option}
+use Rattle.guard_model.proofs.Common.{Some, None, refl, sym, ◌∙◌, ap, subst, Geometry, Named}
+use Rattle.guard_model.proofs.Common.{Instruction, Why, Routines, refusal, Held, table_of, worded}
+use Rattle.guard_model.proofs.Common.{tabled, table_after, if_done, reply_by, counts_for, replies}
+use Rattle.guard_model.proofs.Common.{words_at_end, is_refused}
 use Rattle.std.specs.Prelude.{flat_map}
-use Rattle.dram_model.specs.declared.geometry.Geometry.{Geometry}
 use Rattle.uprog_code.specs.declared.walker.Counts.{Counts}
-use Rattle.object_alloc.specs.Listed.{Named}
-use Rattle.bbop_isa.specs.Forms.{Instruction}
-use Rattle.machine_model.specs.declared.Why.{Why}
 use Rattle.machine_model.specs.declared.Reply.{Reply}
 use Rattle.machine_model.specs.declared.Reply.TheVariants.{Refused}
-use Rattle.machine_model.specs.Routines.{Routines}
-use Rattle.machine_model.specs.Refusals.{refusal}
-use Rattle.machine_model.specs.Steps.{Held, table_of, worded, words_after, tabled, table_after}
-use Rattle.machine_model.specs.Steps.{if_done, reply_by, counts_for}
-use Rattle.machine_model.specs.Script.{replies, words_at_end, table_at_end, plus, is_refused}
+use Rattle.machine_model.specs.Steps.{words_after}
+use Rattle.machine_model.specs.Script.{table_at_end, plus}
 use Rattle.machine_model.proofs.Scripts.{table_step}
 use Rattle.guard_model.specs.Guarded.{joined, done_ones, plain_script, removal}
 

@@ -1,23 +1,16 @@
 -- The flips of a text.
-use Rattle.std.proofs.Common.{◌≡◌, ℕ, ◌+◌, ◌*◌, ◌<◌, ◌≤◌, Bool, true, false, ◌&&◌, cond, eqb, leb}
-use Rattle.std.proofs.Common.{List, [], ◌∷◌, ◌++◌, Option, Some, None, refl, sym, ◌∙◌, ap, subst}
-use Rattle.std.proofs.Common.{arith, inl, inr}
-use Rattle.std.specs.Prelude.{Result, Ok, Err}
-use Rattle.std.specs.List.{AllByRecursion}
-use Rattle.std.proofs.lemmas.Bool.Decides.{nat_tests, eqb_tells}
-use Rattle.text_lex.specs.Lexical.{items_of}
-use Rattle.dram_model.specs.declared.geometry.Geometry.{Geometry}
-use Rattle.bbop_isa.specs.Lines.{lines_of}
-use Rattle.bbop_isa.specs.Words.{Word, words_in}
+use Rattle.guard_model.proofs.Common.{and_parts, ◌≡◌, ℕ, ◌+◌, ◌*◌, ◌<◌, ◌≤◌, Bool, true, false}
+use Rattle.guard_model.proofs.Common.{◌&&◌, cond, eqb, leb, List, [], ◌∷◌, ◌++◌, Option, Some, None}
+use Rattle.guard_model.proofs.Common.{refl, sym, ◌∙◌, ap, subst, arith, inl, inr, Result, Ok, Err}
+use Rattle.guard_model.proofs.Common.{AllByRecursion, nat_tests, eqb_tells, items_of, Geometry}
+use Rattle.guard_model.proofs.Common.{lines_of, Word, words_in, number_or_zero}
 use Rattle.guard_model.specs.declared.Flip.{Flip}
 use Rattle.guard_model.specs.declared.FlipsKind.{FlipsKind}
 use Rattle.guard_model.specs.declared.FlipsFault.{FlipsFault}
 use Rattle.guard_model.specs.Flips.{due}
-use Rattle.bbop_isa.specs.Forms.{number_or_zero}
 use Rattle.guard_model.specs.FlipText.{is_below, is_next, flip_of, numbers_of, flip_by}
 use Rattle.guard_model.specs.FlipText.{flip_in, with_flip, and_rest, flips_from, IsFlip, AreSorted}
 use Rattle.guard_model.specs.Laws.{FlipsAreRight, DueFirst}
-use Rattle.guard_model.proofs.Trios.{and_both}
 
 below_is : (limit : ℕ) (n : Option ℕ) → is_below limit n ≡ true → number_or_zero n < limit
 below_is limit None h = cc
@@ -27,8 +20,8 @@ next_is : (instrs before : ℕ) (k : Option ℕ) → is_next instrs before k ≡
     × (before ≤ number_or_zero k) × (number_or_zero k ≤ instrs + 1)
 next_is instrs before None h = cc
 next_is instrs before (Some k) h =
-    let a = and_both (leb 1 k) (leb before k && leb k (instrs + 1)) h in
-    let b = and_both (leb before k) (leb k (instrs + 1)) a.1 in
+    let a = and_parts (leb 1 k) (leb before k && leb k (instrs + 1)) h in
+    let b = and_parts (leb before k) (leb k (instrs + 1)) a.1 in
     let x = a.0 in
     let y = b.0 in
     let z = b.1 in
@@ -49,11 +42,11 @@ pub of_is : (g : Geometry) (instrs before : ℕ) (k bank row column : Option ℕ
     → flip_of g instrs before k bank row column ≡ Ok (Some f) → Right g instrs before f
 of_is g instrs before k bank row column f h =
     made_case g instrs before k bank row column _ f _ _ (λ t.
-    let a = and_both (is_next instrs before k)
+    let a = and_parts (is_next instrs before k)
     (is_below g.banks bank && (is_below g.rows row && is_below (64 * g.words) column)) t in
-    let b = and_both (is_below g.banks bank)
+    let b = and_parts (is_below g.banks bank)
     (is_below g.rows row && is_below (64 * g.words) column) a.1 in
-    let c = and_both (is_below g.rows row) (is_below (64 * g.words) column) b.1 in
+    let c = and_parts (is_below g.rows row) (is_below (64 * g.words) column) b.1 in
     let n = next_is instrs before k a.0 in (
       record {
         first = n.0;

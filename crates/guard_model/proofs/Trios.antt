@@ -1,16 +1,11 @@
 -- A state of triples as a list of guarded objects.
-use Rattle.std.proofs.Common.{◌≡◌, ◌≢◌, ℕ, suc, ◌+◌, ◌<◌, Bool, true, false, not, ◌&&◌, cond, eqb}
-use Rattle.std.proofs.Common.{List, [], ◌∷◌, length, get_or, drop, Option, Some, None, refl}
-use Rattle.std.proofs.Common.{sym, arith}
-use Rattle.std.specs.List.{AllByRecursion, AllPairs}
-use Rattle.std.specs.Str.{bytes_eq}
-use Rattle.std.proofs.lemmas.Bool.Decides.{nat_tests}
-use Rattle.text_lex.specs.Spelled.{fits_name}
-use Rattle.object_alloc.specs.declared.table.Object.{Object}
+use Rattle.guard_model.proofs.Common.{and_parts, ◌≡◌, ◌≢◌, ℕ, suc, ◌+◌, ◌<◌, Bool, true, false, not}
+use Rattle.guard_model.proofs.Common.{◌&&◌, cond, eqb, List, [], ◌∷◌, length, get_or, drop, Option}
+use Rattle.guard_model.proofs.Common.{Some, None, refl, sym, arith, AllByRecursion, bytes_eq}
+use Rattle.guard_model.proofs.Common.{nat_tests, fits_name, Object, Named, Held, table_of}
+use Rattle.guard_model.proofs.Common.{same_bytes, bytes_same}
+use Rattle.std.specs.List.{AllPairs}
 use Rattle.object_alloc.specs.Free.{AreApart}
-use Rattle.object_alloc.specs.Listed.{Named}
-use Rattle.machine_model.specs.Steps.{Held, table_of}
-use Rattle.machine_model.proofs.Places.{same_bytes, bytes_same}
 use Rattle.machine_model.proofs.Sliced.{has_from}
 use Rattle.guard_model.specs.Triples.{x_letter, y_letter, z_letter, is_first_name, is_first}
 use Rattle.guard_model.specs.Triples.{is_copy, stranger_from}
@@ -86,26 +81,22 @@ one_none false k r h = cc
 pub first_name : (name : List ℕ) → is_first_name name ≡ true → (name ≡ x_letter ∷ drop 1 name)
     × (fits_name (drop 1 name) ≡ true)
 first_name [] h = cc
-first_name (letter ∷ name) h = let both = and_both (eqb letter x_letter) (fits_name name) h in
+first_name (letter ∷ name) h = let both = and_parts (eqb letter x_letter) (fits_name name) h in
     let e : letter ≡ x_letter = grind (arith, nat_tests) in (rw e refl, both.1) where
-      and_both : (a b : Bool) → (a && b) ≡ true → (a ≡ true) × (b ≡ true)
-      and_both true b h = (refl, h)
-      and_both false b h = cc
+      and_parts : (a b : Bool) → (a && b) ≡ true → (a ≡ true) × (b ≡ true)
+      and_parts true b h = (refl, h)
+      and_parts false b h = cc
 
 pub equal_tested : (a b : ℕ) → eqb a b ≡ true → a ≡ b
 equal_tested a b h = grind (arith, nat_tests)
-
-pub and_both : (a b : Bool) → (a && b) ≡ true → (a ≡ true) × (b ≡ true)
-and_both true b h = (refl, h)
-and_both false b h = cc
 
 -- a copy has the first one's name but for the letter, its width and its count
 pub copy_is : (letter : ℕ) (first p : Named) → is_copy letter first p ≡ true
     → (p.0 ≡ letter ∷ drop 1 first.0) × (p.1.width ≡ first.1.width) × (p.1.count ≡ first.1.count)
 copy_is letter first p h =
-    let a = and_both (bytes_eq p.0 (letter ∷ drop 1 first.0))
+    let a = and_parts (bytes_eq p.0 (letter ∷ drop 1 first.0))
     (eqb p.1.width first.1.width && eqb p.1.count first.1.count) h in
-    let b = and_both (eqb p.1.width first.1.width) (eqb p.1.count first.1.count) a.1 in
+    let b = and_parts (eqb p.1.width first.1.width) (eqb p.1.count first.1.count) a.1 in
     (same_bytes _ _ a.0, equal_tested _ _ b.0, equal_tested _ _ b.1)
 
 -- three objects are the copies of one

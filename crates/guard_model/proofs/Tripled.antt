@@ -1,11 +1,10 @@
 -- Which tables are three copies of each of some objects, and where the first stranger stands.
-use Rattle.std.proofs.Common.{◌≡◌, ℕ, zero, suc, ◌+◌, ◌≤◌, Bool, true, false, not, cond, List, []}
-use Rattle.std.proofs.Common.{◌∷◌, ◌++◌, length, map, take, drop, Option, Some, None, refl, sym}
-use Rattle.std.proofs.Common.{◌∙◌, ap, subst, arith}
+use Rattle.guard_model.proofs.Common.{◌≡◌, ℕ, zero, suc, ◌+◌, ◌≤◌, Bool, true, false, not, cond}
+use Rattle.guard_model.proofs.Common.{List, [], ◌∷◌, ◌++◌, length, map, drop, Option, Some, None}
+use Rattle.guard_model.proofs.Common.{refl, sym, ◌∙◌, ap, subst, arith, fits_name, Named}
+use Rattle.guard_model.proofs.Common.{bytes_same}
+use Rattle.std.proofs.Common.{take}
 use Rattle.std.proofs.lemmas.Bool.{eq-eqb}
-use Rattle.text_lex.specs.Spelled.{fits_name}
-use Rattle.object_alloc.specs.Listed.{Named}
-use Rattle.machine_model.proofs.Places.{bytes_same}
 use Rattle.guard_model.specs.Triples.{x_letter, y_letter, z_letter, is_first_name, is_first}
 use Rattle.guard_model.specs.Triples.{is_copy, stranger_from, Outline, outline, lettered, in_copies}
 use Rattle.guard_model.specs.Triples.{AllNamed, IsTripled, BeginsTripled, IsLongestFront}

@@ -1,11 +1,8 @@
 -- What a vote does to a column.
-use Rattle.std.proofs.Common.{◌≡◌, ◌≢◌, ℕ, zero, suc, ◌+◌, ◌<◌, ◌≤◌, Bool, true, false, cond, eqb}
-use Rattle.std.proofs.Common.{not, refl, sym, ◌∙◌, ap, subst, arith, inl, inr}
-use Rattle.std.proofs.lemmas.Bool.{cases_lt, ne_eqb}
-use Rattle.std.proofs.lemmas.Bool.Decides.{nat_tests}
-use Rattle.dram_model.specs.declared.address.Cell.TheVariants.{D}
-use Rattle.bit_rows.specs.Bits.{majority}
-use Rattle.dram_model.specs.Column.{Column, run}
+use Rattle.guard_model.proofs.Common.{◌≡◌, ◌≢◌, ℕ, zero, suc, ◌+◌, ◌<◌, ◌≤◌, Bool, true, false}
+use Rattle.guard_model.proofs.Common.{cond, eqb, not, refl, sym, ◌∙◌, ap, subst, arith, inl, inr}
+use Rattle.guard_model.proofs.Common.{cases_lt, nat_tests, D, majority, Column, run}
+use Rattle.std.proofs.lemmas.Bool.{ne_eqb}
 use Rattle.dram_model.proofs.ColumnLaws.{after-run, run-append}
 use Rattle.guard_model.specs.Votes.{row_vote, votes}
 use Rattle.guard_model.specs.Laws.{RowVote}

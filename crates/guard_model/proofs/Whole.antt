@@ -1,36 +1,25 @@
 -- Whole guarded scripts.
-use Rattle.std.proofs.Common.{◌≡◌, ℕ, ◌+◌, ◌<◌, ◌≤◌, Bool, true, false, not, ◌&&◌, ◌||◌}
-use Rattle.std.proofs.Common.{cond, eqb, List, [], ◌∷◌, ◌++◌, length, map, drop, Option}
-use Rattle.std.proofs.Common.{Some, None, refl, sym, ◌∙◌, ap, subst, arith, ◌⊎◌}
-use Rattle.std.specs.Prelude.{flat_map, slice_index, take}
-use Rattle.std.specs.List.{AllByRecursion}
-use Rattle.std.specs.Str.{bytes_eq}
-use Rattle.std.proofs.lemmas.List.{length-map}
+use Rattle.guard_model.proofs.Common.{and_parts, ◌≡◌, ℕ, ◌+◌, ◌<◌, ◌≤◌, Bool, true, false, not}
+use Rattle.guard_model.proofs.Common.{◌&&◌, ◌||◌, cond, eqb, List, [], ◌∷◌, ◌++◌, length, map, drop}
+use Rattle.guard_model.proofs.Common.{Option, Some, None, refl, sym, ◌∙◌, ap, subst, arith, ◌⊎◌}
+use Rattle.guard_model.proofs.Common.{slice_index, take, AllByRecursion, bytes_eq, length-map}
+use Rattle.guard_model.proofs.Common.{Geometry, Banks, below, column_count, number, Object, Named}
+use Rattle.guard_model.proofs.Common.{limit_of, Place, Instruction, Init, Bbop, Load, Fill, Print}
+use Rattle.guard_model.proofs.Common.{Free, Order, Why, columns, segments, seen, Routines, refusal}
+use Rattle.guard_model.proofs.Common.{rows_of, goes_past, is_absent, Held, table_of, numbers_at}
+use Rattle.guard_model.proofs.Common.{table_after, worded, if_done, counts_for, reply_by}
+use Rattle.guard_model.proofs.Common.{is_refused, bytes_same, nat_tests}
+use Rattle.std.specs.Prelude.{flat_map}
 use Rattle.std.proofs.lemmas.List.Elements.{All-from_recursion, recursion_from_All}
-use Rattle.dram_model.specs.declared.geometry.Geometry.{Geometry}
-use Rattle.dram_model.specs.Chip.{Banks}
-use Rattle.dram_model.specs.Elements.{below, column_count, number, segments_of}
-use Rattle.object_alloc.specs.declared.table.Object.{Object}
-use Rattle.object_alloc.specs.Listed.{IsTable, Named, limit_of}
-use Rattle.bbop_isa.specs.declared.instr.Place.{Place}
-use Rattle.bbop_isa.specs.Forms.{Instruction, Init, Bbop, Load, Fill, Print, Free, Order}
-use Rattle.machine_model.specs.declared.Why.{Why}
-use Rattle.machine_model.specs.Columns.{columns, segments}
-use Rattle.machine_model.specs.Places.{seen}
-use Rattle.machine_model.specs.Routines.{Routines}
-use Rattle.machine_model.specs.Refusals.{refusal, rows_of, goes_past, is_absent}
-use Rattle.machine_model.specs.Steps.{Held, table_of, numbers_at, table_after, worded, if_done}
-use Rattle.machine_model.specs.Steps.{counts_for, reply_by}
-use Rattle.machine_model.specs.Script.{is_refused}
+use Rattle.dram_model.specs.Elements.{segments_of}
+use Rattle.object_alloc.specs.Listed.{IsTable}
 use Rattle.machine_model.specs.Agrees.{Agrees, DoesAll, IsPlain}
 use Rattle.machine_model.proofs.Whole.{rows_give_words}
 use Rattle.machine_model.specs.Opened.{Image, opened, objects_held}
 use Rattle.machine_model.specs.Routines.{routines_of, meaning_in}
 use Rattle.machine_model.proofs.Opened.{opened_agrees}
-use Rattle.machine_model.proofs.Places.{bytes_same}
 use Rattle.machine_model.proofs.Texts.{does_all}
 use Rattle.dram_model.specs.Geometry.{is_geometry}
-use Rattle.std.proofs.lemmas.Bool.Decides.{nat_tests}
 use Rattle.machine_model.proofs.Bbops.{operand_columns}
 use Rattle.machine_model.proofs.Facts.{not_false, operand_is}
 use Rattle.guard_model.specs.declared.Flip.{Flip}
@@ -46,7 +35,7 @@ use Rattle.guard_model.specs.Survival.{element_at, whole_after, whole_done, whol
 use Rattle.guard_model.specs.Survival.{whole_mended}
 use Rattle.guard_model.specs.Laws.{HasName, IsGuarded, GuardedGivesWords, GuardedTextGivesWords}
 use Rattle.guard_model.specs.Laws.{TriplesKept, RefusedStays, AllOrNone}
-use Rattle.guard_model.proofs.Trios.{Trio, alone, and_both, entry, equal_tested, place, spread}
+use Rattle.guard_model.proofs.Trios.{Trio, alone, entry, equal_tested, place, spread}
 use Rattle.guard_model.proofs.Trios.{separate_of, triple, trio_of, trios_of, trios_spread}
 use Rattle.guard_model.proofs.Trios.{no_stranger, HaveNames}
 use Rattle.guard_model.proofs.Flips.{flips_length}
@@ -498,8 +487,8 @@ first_head g spot x y z rest n h =
     let p = eqb (slice_index y.numbers at) (slice_index x.numbers at) in
     let q = eqb (slice_index z.numbers at) (slice_index x.numbers at) in
     let is = bytes_eq x.name (x_letter ∷ drop 1 x.name) in
-    let a = and_both (not is || (p && q)) (whole_first g spot rest (drop 1 x.name)) h in
-    let b = and_both p q (named_case is (p && q)
+    let a = and_parts (not is || (p && q)) (whole_first g spot rest (drop 1 x.name)) h in
+    let b = and_parts p q (named_case is (p && q)
     (bytes_same x.name (x_letter ∷ drop 1 x.name) n) a.0) in
     (equal_tested _ _ b.0, equal_tested _ _ b.1)
 
@@ -510,7 +499,7 @@ first_rest g spot x y z rest name h =
     let at = element_at g spot in
     let p = eqb (slice_index y.numbers at) (slice_index x.numbers at) in
     let q = eqb (slice_index z.numbers at) (slice_index x.numbers at) in
-    (and_both (not (bytes_eq x.name (x_letter ∷ name)) || (p && q))
+    (and_parts (not (bytes_eq x.name (x_letter ∷ name)) || (p && q))
     (whole_first g spot rest name) h).1
 
 module _ (g : Geometry) (banks : Banks) (spot : Spot) where
@@ -652,7 +641,7 @@ triples_kept g operations table instr name triples = on_table g operations table
     (λ ts have. kept_from g operations ts instr have name)
 
 words_pos : (g : Geometry) → is_geometry g ≡ true → 0 < g.words
-words_pos g h = grind (arith, nat_tests, and_both)
+words_pos g h = grind (arith, nat_tests, and_parts)
 
 held_table : (i : Image) (table : List Named) → table_of
     (map (λ (p : Named). record {

@@ -1,16 +1,13 @@
 -- A worked row of the definitions: a guarded object of four elements and width 2 is made, loaded
 -- and printed.
-use Rattle.std.proofs.Common.{◌≡◌, ℕ, Bool, true, false, List, [], ◌∷◌, None, refl}
-use Rattle.dram_model.specs.declared.geometry.Geometry.{Geometry}
-use Rattle.dram_model.specs.declared.dram.Counters.{Counters}
-use Rattle.object_alloc.specs.Free.{free}
-use Rattle.bbop_isa.specs.Forms.{Instruction, Init, Load, Print, whole}
-use Rattle.machine_model.specs.Routines.{Routines}
-use Rattle.guard_model.specs.declared.Flip.{Flip}
-use Rattle.bit_rows.specs.Bits.{majority}
+use Rattle.guard_model.proofs.Common.{◌≡◌, ℕ, Bool, true, false, List, [], ◌∷◌, None, refl}
+use Rattle.guard_model.proofs.Common.{Geometry, Counters, free, Instruction, Init, Load, Print}
+use Rattle.guard_model.proofs.Common.{Routines, majority}
+use Rattle.bbop_isa.specs.Forms.{whole}
 use Rattle.dram_model.specs.Chip.{blank_banks}
 use Rattle.machine_model.specs.declared.Reply.TheVariants.{Done}
 use Rattle.machine_model.specs.Report.{Said}
+use Rattle.guard_model.specs.declared.Flip.{Flip}
 use Rattle.guard_model.specs.Guarded.{votes_at_end, guarded_tally, guarded_said_in_rows}
 use Rattle.guard_model.specs.Survival.{Spot, whole_at_end}
 

@@ -1,29 +1,25 @@
 -- The subscripts of a body's places, their registers, and the body whose indices are in registers.
-use Rattle.std.proofs.Common.{◌≡◌, ℕ, zero, suc, ◌+◌, ◌<◌, Bool, true, false, cond, List, [], ◌∷◌}
-use Rattle.std.proofs.Common.{◌++◌, map, length, refl, sym, ap, ◌∙◌, subst, arith, inl, inr, ◌≤◌}
-use Rattle.std.specs.Prelude.{filter, nat_lt, ◌||◌, ◌&&◌}
-use Rattle.std.specs.List.{AllByRecursion, list_all, list_any}
-use Rattle.std.proofs.lemmas.Bool.{and_parts, cases_Bool, or_from, ltb-true, ne_eqb, eq-eqb}
-use Rattle.std.proofs.lemmas.Bool.{and_from, lt-ltb}
-use Rattle.std.proofs.lemmas.List.Folds.{list_any-append, list_all-append}
+use Rattle.loop_front.proofs.Common.{◌≡◌, ℕ, zero, suc, ◌+◌, ◌<◌, Bool, true, false, cond, List, []}
+use Rattle.loop_front.proofs.Common.{◌∷◌, ◌++◌, map, length, refl, sym, ap, ◌∙◌, subst, arith, inl}
+use Rattle.loop_front.proofs.Common.{inr, ◌≤◌, filter, nat_lt, ◌||◌, ◌&&◌, AllByRecursion, list_all}
+use Rattle.loop_front.proofs.Common.{and_parts, cases_Bool, ltb-true, ne_eqb, eq-eqb, and_from}
+use Rattle.loop_front.proofs.Common.{lt-ltb, list_all-append, Sub, Zero, Inner, InnerDown, Register}
+use Rattle.loop_front.proofs.Common.{Place, Block, nth_place, is_state, Spot, IsOwn, same_sub}
+use Rattle.loop_front.proofs.Common.{may_stand, all_stand, IsSmall, HasValues, is_in_register}
+use Rattle.loop_front.proofs.Common.{stays_in_registers, sub_true, length-map}
+use Rattle.std.specs.List.{list_any}
+use Rattle.std.proofs.lemmas.Bool.{or_from}
+use Rattle.std.proofs.lemmas.List.Folds.{list_any-append}
 use Rattle.std.proofs.lemmas.Map.Views.{any-filter_same}
-use Rattle.loop_ir.specs.declared.ir.Sub.{Sub}
-use Rattle.loop_ir.specs.declared.ir.Sub.TheVariants.{Zero, Inner, InnerDown, Register}
-use Rattle.loop_ir.specs.declared.ir.Place.{Place}
-use Rattle.loop_ir.specs.Plain.{Block}
-use Rattle.loop_ir.specs.Spots.{nth_place, is_state, Spot, IsOwn}
-use Rattle.loop_ir.specs.Costs.{same_sub, sub_code, plain_cost}
-use Rattle.loop_ir.specs.Limits.{may_stand, all_stand, HasCommands, IsSmall, IsHad, HasValues}
-use Rattle.loop_ir.specs.Limits.{is_in_register, stays_in_registers}
-use Rattle.loop_laws.proofs.Same.{sub_true}
-use Rattle.loop_front.specs.Front.{is_used, used_subs, in_register, placed, in_registers}
-use Rattle.std.proofs.lemmas.List.{length-map}
+use Rattle.loop_ir.specs.Costs.{sub_code, plain_cost}
+use Rattle.loop_ir.specs.Limits.{HasCommands, IsHad}
 use Rattle.mig_graph.specs.declared.Lit.{Lit}
 use Rattle.row_alloc.specs.declared.body.OutRow.{OutRow}
 use Rattle.row_alloc.specs.Held.{DoesHeld}
 use Rattle.loop_ir.specs.WellFormed.{IsOneValue, IsWellFormed}
 use Rattle.loop_ir.specs.Outputs.{IsOuts}
 use Rattle.loop_ir.specs.States.{row_count, enters, leaves, row_outs, StatesFit}
+use Rattle.loop_front.specs.Front.{is_used, used_subs, in_register, placed, in_registers}
 
 pub nth_map : (f : Place → Place) (ps : List Place) (k : ℕ) → k < length ps
     → nth_place (map f ps) k ≡ f (nth_place ps k)

@@ -1,14 +1,10 @@
 -- What the code of a flow builds: places one after another, and from its end moves and steps.
-use Rattle.std.proofs.Common.{◌≡◌, ℕ, ◌+◌, ◌-◌, ◌<◌, List, [], ◌∷◌, ◌++◌, length, get_or, take}
-use Rattle.std.proofs.Common.{drop, map, refl, sym, ap, ◌∙◌, arith, zero, suc, ◌≤◌, set}
+use Rattle.loop_front.proofs.Common.{◌≡◌, ℕ, ◌+◌, ◌-◌, ◌<◌, List, [], ◌∷◌, ◌++◌, length, get_or}
+use Rattle.loop_front.proofs.Common.{take, drop, map, refl, sym, ap, ◌∙◌, arith, zero, suc, ◌≤◌}
+use Rattle.loop_front.proofs.Common.{set, Move, Sub, Block, step_of, FlowOf, Put}
 use Rattle.std.proofs.Math.Seq.{take-length}
-use Rattle.loop_ir.specs.declared.ir.Move.{Move}
-use Rattle.loop_ir.specs.declared.ir.Sub.{Sub}
 use Rattle.loop_ir.specs.declared.ir.Step.{Step}
-use Rattle.loop_ir.specs.Plain.{Block, step_of}
-use Rattle.loop_ir.specs.Flows.{FlowOf}
 use Rattle.loop_front.specs.Front.{put_all, each_sub, step_flow, steps_flow}
-use Rattle.loop_ir.specs.Flows.FlowOf.{Put}
 
 pub put_both : {A : Type 0} (xs ys : List Move) (k : FlowOf A)
     → put_all (xs ++ ys) k ≡ put_all xs (put_all ys k)

@@ -1,28 +1,20 @@
 -- A flow after moves that clear the registers which its forms name: it does the rounds that it does
 -- from zeros.
-use Rattle.std.proofs.Common.{◌≡◌, ℕ, zero, suc, ◌<◌, ◌≤◌, Bool, true, false, cond, List}
-use Rattle.std.proofs.Common.{[], ◌∷◌, ◌++◌, map, length, refl, sym, ap, ◌∙◌, subst, arith, inl}
-use Rattle.std.proofs.Common.{inr, length-set, get_or-set_same, get_or-set_other}
-use Rattle.std.specs.Prelude.{slice_index, slice_set, ◌&&◌, ◌||◌, ◌==◌, nat_lt, nat_le, filter, not}
-use Rattle.std.specs.List.{list_all}
-use Rattle.std.proofs.lemmas.Bool.{and_parts, eq-eqb, eqb-true, ltb-true, cases_Bool, cases_eq}
-use Rattle.std.proofs.lemmas.List.Folds.{list_all-append}
+use Rattle.loop_front.proofs.Common.{◌≡◌, ℕ, zero, suc, ◌<◌, ◌≤◌, Bool, true, false, cond, List, []}
+use Rattle.loop_front.proofs.Common.{◌∷◌, ◌++◌, map, length, refl, sym, ap, ◌∙◌, subst, arith, inl}
+use Rattle.loop_front.proofs.Common.{inr, length-set, get_or-set_same, get_or-set_other}
+use Rattle.loop_front.proofs.Common.{slice_index, slice_set, ◌&&◌, ◌||◌, ◌==◌, nat_lt, nat_le}
+use Rattle.loop_front.proofs.Common.{filter, not, list_all, and_parts, eq-eqb, ltb-true, cases_Bool}
+use Rattle.loop_front.proofs.Common.{list_all-append, WIDTH_MAX, SetI, Sub, Zero, Register, Place}
+use Rattle.loop_front.proofs.Common.{Block, FlowOf, TurnsOf, EventOf, run, all_flow, all_acts, End}
+use Rattle.loop_front.proofs.Common.{Do, Put, If, Loop, Last, Turn, Done, Moved, Counted, names}
+use Rattle.loop_front.proofs.Common.{counts, is_safe, nests, is_event_safe, is_in_register}
+use Rattle.loop_front.proofs.Common.{stays_in_registers, RoundOf, rounds_in, flow_rounds, sub_value}
+use Rattle.std.proofs.lemmas.Bool.{eqb-true, cases_eq}
 use Rattle.std.proofs.lemmas.Grind.{get_or-set_at}
-use Rattle.bit_rows.specs.declared.TheConstants.{WIDTH_MAX}
-use Rattle.loop_ir.specs.declared.ir.Move.TheVariants.{SetI}
-use Rattle.loop_ir.specs.declared.ir.Sub.{Sub}
-use Rattle.loop_ir.specs.declared.ir.Sub.TheVariants.{Zero, Register}
-use Rattle.loop_ir.specs.declared.ir.Place.{Place}
-use Rattle.loop_ir.specs.Plain.{Block}
-use Rattle.loop_ir.specs.Flows.{FlowOf, TurnsOf, EventOf, moved, cycle, run, acts, zeros, all_flow}
-use Rattle.loop_ir.specs.Flows.{RunOf, join, all_acts}
-use Rattle.loop_ir.specs.Flows.FlowOf.{End, Do, Put, If, Loop}
-use Rattle.loop_ir.specs.Flows.TurnsOf.{Last, Turn}
-use Rattle.loop_ir.specs.Flows.EventOf.{Done, Moved, Counted}
-use Rattle.loop_ir.specs.FlowTests.{names, any_names, counts, all_count, is_safe}
-use Rattle.loop_ir.specs.FlowTests.{nests, is_event_safe, runs_safely}
-use Rattle.loop_ir.specs.Limits.{is_in_register, stays_in_registers, flow_stands}
-use Rattle.loop_ir.specs.Loops.{RoundOf, rounds_in, flow_rounds, sub_value}
+use Rattle.loop_ir.specs.Flows.{moved, cycle, acts, zeros, RunOf, join}
+use Rattle.loop_ir.specs.FlowTests.{any_names, all_count, runs_safely}
+use Rattle.loop_ir.specs.Limits.{flow_stands}
 use Rattle.loop_laws.proofs.FlowLogic.{way, turning, wps}
 use Rattle.loop_laws.proofs.Registers.{Alike, set_both, move_like}
 use Rattle.loop_front.specs.Like.{AreSameRows}

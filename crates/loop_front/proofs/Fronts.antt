@@ -1,37 +1,31 @@
 -- What the flow of a loop program keeps: its bodies, its registers and its loops are as they may,
 -- it is as short as it must be, and it runs.
-use Rattle.std.proofs.Common.{◌≡◌, ℕ, suc, ◌+◌, ◌≤◌, Bool, true, false, List, [], ◌∷◌, ◌++◌, map}
-use Rattle.std.proofs.Common.{length, refl, ◌∙◌, arith, ◌*◌, ap, length-append}
-use Rattle.std.specs.Prelude.{nat_lt, not, filter, cond, ◌&&◌, ◌||◌, ◌==◌, sum_by}
-use Rattle.std.specs.List.{AllByRecursion, list_all}
-use Rattle.std.proofs.lemmas.Bool.{and_from, lt-ltb, ne_eqb}
-use Rattle.std.proofs.lemmas.List.Folds.{list_all-append}
-use Rattle.loop_ir.specs.declared.ir.Move.{Move}
-use Rattle.loop_ir.specs.declared.ir.Move.TheVariants.{SetI, SetN}
-use Rattle.loop_ir.specs.declared.ir.Sub.{Sub}
+use Rattle.loop_front.proofs.Common.{◌≡◌, ℕ, suc, ◌+◌, ◌≤◌, Bool, true, false, List, [], ◌∷◌, ◌++◌}
+use Rattle.loop_front.proofs.Common.{map, length, refl, ◌∙◌, arith, ap, nat_lt, not, filter, ◌&&◌}
+use Rattle.loop_front.proofs.Common.{◌||◌, ◌==◌, AllByRecursion, list_all, and_from, lt-ltb, ne_eqb}
+use Rattle.loop_front.proofs.Common.{list_all-append, Move, SetI, SetN, Sub, Place, Block, StepOf}
+use Rattle.loop_front.proofs.Common.{Single, Along, Flowed, FlowOf, TurnsOf, all_flow, all_acts}
+use Rattle.loop_front.proofs.Common.{End, Do, Put, If, Loop, Last, Turn, names, counts, nests}
+use Rattle.loop_front.proofs.Common.{RoundOf, round_at, step_rounds, all_rounds, sub_value, Spot}
+use Rattle.loop_front.proofs.Common.{IsOwn, nth_place, IsSmall, IsRound, HasValues, step_stands}
+use Rattle.loop_front.proofs.Common.{may_stand, is_in_register, stays_in_registers, all_stand}
+use Rattle.loop_front.proofs.Common.{CanCompile, length-map, Zero, Inner, InnerDown, Register}
+use Rattle.std.proofs.Common.{◌*◌, length-append}
+use Rattle.std.specs.Prelude.{cond, sum_by}
 use Rattle.loop_ir.specs.declared.ir.Space.{Space}
 use Rattle.loop_ir.specs.declared.ir.Space.TheVariants.{Source}
-use Rattle.loop_ir.specs.declared.ir.Place.{Place}
-use Rattle.loop_ir.specs.Plain.{Block, StepOf, AllStep, AllParts}
-use Rattle.loop_ir.specs.Plain.StepOf.{Single, Along, Flowed}
-use Rattle.loop_ir.specs.Flows.{FlowOf, TurnsOf, AllFlow, all_flow, all_acts, flow_size}
-use Rattle.loop_ir.specs.Flows.FlowOf.{End, Do, Put, If, Loop}
-use Rattle.loop_ir.specs.Flows.TurnsOf.{Last, Turn}
-use Rattle.loop_ir.specs.FlowTests.{target, is_low, names, keeps, counts, nests, cleared}
-use Rattle.loop_ir.specs.Loops.{RoundOf, round_at, step_rounds, all_rounds, sub_value}
-use Rattle.loop_ir.specs.Spots.{Spot, IsOwn, nth_place, spot_in}
+use Rattle.loop_ir.specs.Plain.{AllStep, AllParts}
+use Rattle.loop_ir.specs.Flows.{AllFlow, flow_size}
+use Rattle.loop_ir.specs.FlowTests.{target, is_low, keeps, cleared}
+use Rattle.loop_ir.specs.Spots.{spot_in}
 use Rattle.loop_ir.specs.Costs.{body_cost, step_cost, code_cost}
-use Rattle.loop_ir.specs.Limits.{IsSmall, IsRound, HasValues, StepHasValues, step_stands}
-use Rattle.loop_ir.specs.Limits.{may_stand, is_in_register, stays_in_registers, all_stand}
-use Rattle.loop_ir.specs.Limits.{CanCompile}
+use Rattle.loop_ir.specs.Limits.{StepHasValues}
+use Rattle.std.proofs.lemmas.List.Sums.{sum_by-cons}
 use Rattle.loop_front.specs.Front.{used_subs, in_registers, start, before, after, each_sub}
 use Rattle.loop_front.specs.Front.{put_all, starts, round_flow, each_flow, followed, clears}
 use Rattle.loop_front.specs.Front.{step_flow, steps_flow, front}
 use Rattle.loop_front.proofs.Bodies.{known_reads, known_writes, small_registers, used_few}
 use Rattle.loop_front.proofs.Bodies.{values_registers, stays_registers}
-use Rattle.std.proofs.lemmas.List.{length-map}
-use Rattle.std.proofs.lemmas.List.Sums.{sum_by-cons}
-use Rattle.loop_ir.specs.declared.ir.Sub.TheVariants.{Zero, Inner, InnerDown, Register}
 use Rattle.loop_front.specs.FlowOfSteps.{IsFlowOf}
 use Rattle.loop_front.proofs.Runs.{front_runs}
 

@@ -1,3 +1,4 @@
+pub mod Common
 mod Bodies
 mod Built
 mod Rounds

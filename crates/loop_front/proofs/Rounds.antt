@@ -1,26 +1,21 @@
 -- Rounds that do the same at the same rows keep what a round keeps, when a run does rounds, and how
 -- each round finds the states that it reads where the steps find theirs by the test.
-use Rattle.std.proofs.Common.{◌≡◌, ℕ, zero, suc, ◌<◌, true, List, [], ◌∷◌, ◌++◌, length, refl, sym}
-use Rattle.std.proofs.Common.{ap, ◌∙◌, subst, arith, ◌+◌, ◌-◌, ◌≤◌, Bool, append_assoc}
-use Rattle.std.specs.Prelude.{slice_index, nat_le}
-use Rattle.std.specs.List.{AllByRecursion, list_all, range_with_len}
-use Rattle.loop_ir.specs.declared.ir.Place.{Place}
-use Rattle.loop_ir.specs.Plain.{Block, StepOf}
-use Rattle.loop_ir.specs.Flows.{FlowOf, EventOf, run}
-use Rattle.loop_ir.specs.Flows.EventOf.{Done, Moved, Counted}
-use Rattle.loop_ir.specs.FlowTests.{is_safe, is_event_safe, widths}
-use Rattle.loop_ir.specs.Limits.{IsRound}
-use Rattle.loop_ir.specs.Loops.{RoundOf, rounds_in, rounds, all_rounds, flow_rounds}
-use Rattle.loop_ir.specs.Spots.{Spot, IsOwn, is_state, nth_place, nth_spot}
+use Rattle.loop_front.proofs.Common.{◌≡◌, ℕ, zero, suc, ◌<◌, true, List, [], ◌∷◌, ◌++◌, length}
+use Rattle.loop_front.proofs.Common.{refl, sym, ap, ◌∙◌, subst, arith, ◌+◌, ◌-◌, ◌≤◌, Bool}
+use Rattle.loop_front.proofs.Common.{slice_index, nat_le, AllByRecursion, list_all, range_with_len}
+use Rattle.loop_front.proofs.Common.{Place, Block, StepOf, FlowOf, EventOf, run, Done, Moved}
+use Rattle.loop_front.proofs.Common.{Counted, is_safe, is_event_safe, IsRound, RoundOf, rounds_in}
+use Rattle.loop_front.proofs.Common.{rounds, all_rounds, flow_rounds, Spot, IsOwn, is_state}
+use Rattle.loop_front.proofs.Common.{nth_place, and_parts, WIDTH_MAX, Single, Along, Flowed}
+use Rattle.std.proofs.Common.{append_assoc}
+use Rattle.loop_ir.specs.FlowTests.{widths}
+use Rattle.loop_ir.specs.Spots.{nth_spot}
 use Rattle.loop_ir.specs.Chains.{states_in, is_alive, finds, left_by, chained, loop_finds}
 use Rattle.loop_ir.specs.Chains.{steps_find, flow_finds}
 use Rattle.loop_laws.proofs.FlowLogic.{wp, after, AllFine, sound}
-use Rattle.loop_front.specs.Like.{IsSameRow, AreSameRows, IsLike, AreLike}
-use Rattle.std.proofs.lemmas.Bool.{and_parts}
 use Rattle.std.proofs.lemmas.List.FromFn.{get_or-range_with_len, length-range_with_len}
 use Rattle.std.proofs.lemmas.List.Sums.{AllPass-from_list_all}
-use Rattle.bit_rows.specs.declared.TheConstants.{WIDTH_MAX}
-use Rattle.loop_ir.specs.Plain.StepOf.{Single, Along, Flowed}
+use Rattle.loop_front.specs.Like.{IsSameRow, AreSameRows, IsLike, AreLike}
 
 -- what a body does with these registers
 abbrev pub round_in : Block → List ℕ → RoundOf Block

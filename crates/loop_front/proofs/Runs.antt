@@ -1,28 +1,16 @@
 -- A run of the flow of a loop program does the program's rounds.
-use Rattle.std.proofs.Common.{◌≡◌, ℕ, suc, ◌+◌, ◌-◌, ◌<◌, ◌≤◌, Bool, true, false, List, [], ◌∷◌}
-use Rattle.std.proofs.Common.{◌++◌, length, refl, sym, ap, ◌∙◌, subst, arith}
-use Rattle.std.proofs.Common.{length-set, get_or-set_same, get_or-set_other, map, inl, inr}
-use Rattle.std.specs.Prelude.{slice_index, slice_set, nat_le}
-use Rattle.std.specs.List.{list_all, AllByRecursion}
-use Rattle.std.proofs.lemmas.Bool.{le-leb, cases_Bool, and_parts}
-use Rattle.std.proofs.lemmas.List.Folds.{list_all-append}
-use Rattle.bit_rows.specs.declared.TheConstants.{WIDTH_MAX}
-use Rattle.loop_ir.specs.declared.ir.Move.TheVariants.{SetN}
-use Rattle.loop_ir.specs.declared.ir.Move.{Move}
-use Rattle.loop_ir.specs.declared.ir.Sub.{Sub}
-use Rattle.loop_ir.specs.declared.ir.Sub.TheVariants.{Zero, Inner, InnerDown, Register}
-use Rattle.loop_ir.specs.declared.ir.Place.{Place}
-use Rattle.loop_ir.specs.Plain.{Block, StepOf}
-use Rattle.loop_ir.specs.Plain.StepOf.{Single, Along, Flowed}
-use Rattle.loop_ir.specs.Flows.{FlowOf}
-use Rattle.loop_ir.specs.Flows.FlowOf.{End, Do, Put, Loop}
-use Rattle.loop_ir.specs.Flows.TurnsOf.{Last}
-use Rattle.loop_ir.specs.Loops.{RoundOf, rounds, step_rounds, all_rounds, sub_value, round_at}
-use Rattle.loop_ir.specs.Spots.{Spot}
-use Rattle.loop_ir.specs.Costs.{same_sub}
-use Rattle.loop_ir.specs.Limits.{CanCompile, may_stand, all_stand, step_stands}
+use Rattle.loop_front.proofs.Common.{◌≡◌, ℕ, suc, ◌+◌, ◌-◌, ◌<◌, ◌≤◌, Bool, true, false, List, []}
+use Rattle.loop_front.proofs.Common.{◌∷◌, ◌++◌, length, refl, sym, ap, ◌∙◌, subst, arith}
+use Rattle.loop_front.proofs.Common.{length-set, get_or-set_same, get_or-set_other, map, inl, inr}
+use Rattle.loop_front.proofs.Common.{slice_index, slice_set, nat_le, list_all, AllByRecursion}
+use Rattle.loop_front.proofs.Common.{cases_Bool, and_parts, list_all-append, WIDTH_MAX, SetN, Move}
+use Rattle.loop_front.proofs.Common.{Sub, Zero, Inner, InnerDown, Register, Place, Block, StepOf}
+use Rattle.loop_front.proofs.Common.{Single, Along, Flowed, FlowOf, End, Do, Put, Loop, Last}
+use Rattle.loop_front.proofs.Common.{RoundOf, rounds, step_rounds, all_rounds, sub_value, round_at}
+use Rattle.loop_front.proofs.Common.{Spot, same_sub, CanCompile, may_stand, all_stand, step_stands}
+use Rattle.loop_front.proofs.Common.{sub_true}
+use Rattle.std.proofs.lemmas.Bool.{le-leb}
 use Rattle.loop_laws.proofs.FlowLogic.{wp_loop}
-use Rattle.loop_laws.proofs.Same.{sub_true}
 use Rattle.loop_front.specs.Front.{used_subs, in_register, placed, in_registers, start, before}
 use Rattle.loop_front.specs.Front.{after, each_sub, put_all, starts, round_flow, each_flow, step_flow}
 use Rattle.loop_front.specs.Front.{steps_flow, front}

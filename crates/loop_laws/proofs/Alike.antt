@@ -1,28 +1,18 @@
 -- Which rows the owners have plays no part in what is said of states.
-use Rattle.std.proofs.Common.{◌≡◌, ℕ, zero, suc, ◌+◌, ◌<◌, ◌≤◌, Bool, true, false}
-use Rattle.std.proofs.Common.{cond, List, [], ◌∷◌, ◌++◌, map, length, refl, sym}
-use Rattle.std.proofs.Common.{ap, ◌∙◌, inl, inr, arith}
+use Rattle.loop_laws.proofs.Common.{or_parts, ◌≡◌, ℕ, zero, suc, ◌+◌, ◌<◌, ◌≤◌, Bool, true, false}
+use Rattle.loop_laws.proofs.Common.{cond, List, [], ◌∷◌, ◌++◌, map, length, refl, sym, ap, ◌∙◌, inl}
+use Rattle.loop_laws.proofs.Common.{inr, arith, list_any, list_all, nat_tests, cases_Bool}
+use Rattle.loop_laws.proofs.Common.{length-map, Lit, Place, Block, StepOf, sum_by-cons, RoundOf}
+use Rattle.loop_laws.proofs.Common.{flow_rounds, all_rounds, chained, flow_finds, states_in}
+use Rattle.loop_laws.proofs.Common.{steps_find, FlowOf, flow_map, widths, Single, Along, Flowed}
+use Rattle.loop_laws.proofs.Common.{is_state, nth_place, has_states, row_count, enters, leaves}
+use Rattle.loop_laws.proofs.Common.{row_outs, turn_cost, plain_cost}
 use Rattle.std.specs.Prelude.{◌||◌}
-use Rattle.std.specs.List.{list_any, list_all}
-use Rattle.std.proofs.lemmas.Bool.Decides.{nat_tests}
-use Rattle.std.proofs.lemmas.Bool.{cases_Bool}
-use Rattle.std.proofs.lemmas.List.{length-map}
-use Rattle.mig_graph.specs.declared.Lit.{Lit}
-use Rattle.loop_ir.specs.declared.ir.Place.{Place}
-use Rattle.loop_ir.specs.Plain.{Block, StepOf}
-use Rattle.std.proofs.lemmas.List.Sums.{sum_by-cons}
-use Rattle.loop_ir.specs.Loops.{RoundOf, flow_rounds, all_rounds}
-use Rattle.loop_ir.specs.Chains.{chained, flow_finds, states_in, is_alive, finds, left_by}
-use Rattle.loop_ir.specs.Chains.{steps_find}
-use Rattle.loop_ir.specs.Flows.{FlowOf, flow_map}
-use Rattle.loop_ir.specs.FlowTests.{widths}
+use Rattle.loop_ir.specs.Chains.{is_alive, finds, left_by}
+use Rattle.loop_ir.specs.States.{RowsFirst, StatesFit}
+use Rattle.loop_ir.specs.Costs.{rounds_cost}
 use Rattle.loop_laws.proofs.FlowRounds.{round_map, flow_rounds_map}
 use Rattle.loop_laws.proofs.RoundsMap.{all_rounds_map}
-use Rattle.loop_ir.specs.Plain.StepOf.{Single, Along, Flowed}
-use Rattle.loop_ir.specs.Spots.{is_state, nth_place}
-use Rattle.loop_ir.specs.States.{has_states, row_count, RowsFirst, enters, leaves, row_outs}
-use Rattle.loop_ir.specs.States.{StatesFit}
-use Rattle.loop_ir.specs.Costs.{turn_cost, plain_cost, rounds_cost}
 use Rattle.loop_laws.specs.Rooms.{Room, room_at, room_for, Owner, InRoom, InCells, Mark, Marked}
 use Rattle.loop_laws.specs.Rooms.{placed, placed_body, placed_steps}
 use Rattle.loop_laws.specs.Forms.{are_rows_first, states_fit}
@@ -220,10 +210,6 @@ rows_first ps f = record {
   row = rows_before ps;
   state = λ k le lt. states_after ps k f le lt;
 }
-
-pub or_parts : (a b : Bool) → (a || b) ≡ false → (a ≡ false) × (b ≡ false)
-or_parts true b e = absurd cc
-or_parts false b e = (refl, e)
 
 -- of places that are no states each is a row
 pub none_at : (ps qs : List Place) (k : ℕ) → list_any (λ p. is_state p.space) (ps ++ qs) ≡ false

@@ -1,11 +1,8 @@
 -- Code can be made of a program of such a form, whose graphs are such as `Mig` makes.
-use Rattle.std.proofs.Common.{ℕ, ◌≤◌, List, [], ◌∷◌, length, arith}
-use Rattle.loop_ir.specs.Plain.{Block, StepOf, AllStep, AllParts}
-use Rattle.loop_ir.specs.Plain.StepOf.{Single, Along, Flowed}
-use Rattle.loop_ir.specs.Flows.{FlowOf, TurnsOf, AllFlow, AllActs}
-use Rattle.loop_ir.specs.Flows.FlowOf.{End, Do, Put, If, Loop}
-use Rattle.loop_ir.specs.Flows.TurnsOf.{Last, Turn}
-use Rattle.loop_ir.specs.Spots.{Spot}
+use Rattle.loop_laws.proofs.Common.{ℕ, ◌≤◌, List, [], ◌∷◌, length, arith, Block, StepOf, AllParts}
+use Rattle.loop_laws.proofs.Common.{Single, Along, Flowed, FlowOf, TurnsOf, AllFlow, AllActs, End}
+use Rattle.loop_laws.proofs.Common.{Do, Put, If, Loop, Last, Turn, Spot}
+use Rattle.loop_ir.specs.Plain.{AllStep}
 use Rattle.loop_ir.specs.WellFormed.{IsWellFormed}
 use Rattle.loop_ir.specs.Limits.{IsSmall}
 use Rattle.loop_laws.specs.Forms.{IsSlim, IsMade}

@@ -1,15 +1,8 @@
 -- What a body may take, by its nodes and outputs.
-use Rattle.std.proofs.Common.{◌≡◌, ◌≤◌, false, cond, List, [], ◌∷◌, ◌++◌, length, refl, arith}
-use Rattle.std.specs.List.{list_any}
-use Rattle.std.proofs.lemmas.Bool.Decides.{nat_tests}
-use Rattle.mig_graph.specs.declared.Lit.{Lit}
-use Rattle.loop_ir.specs.Plain.{Block}
-use Rattle.loop_ir.specs.declared.ir.Place.{Place}
-use Rattle.loop_ir.specs.Spots.{is_state}
-use Rattle.loop_ir.specs.States.{has_states, row_outs}
-use Rattle.loop_ir.specs.Costs.{body_cost, turn_cost, plain_cost, is_copy}
-use Rattle.loop_ir.specs.Limits.{HasCommands}
-use Rattle.loop_laws.proofs.Alike.{or_parts}
+use Rattle.loop_laws.proofs.Common.{or_parts, ◌≡◌, ◌≤◌, false, cond, List, [], ◌∷◌, ◌++◌, length}
+use Rattle.loop_laws.proofs.Common.{refl, arith, list_any, nat_tests, Lit, Block, Place, is_state}
+use Rattle.loop_laws.proofs.Common.{has_states, row_outs, turn_cost, plain_cost, HasCommands}
+use Rattle.loop_ir.specs.Costs.{body_cost, is_copy}
 
 -- where nothing stands in cells, all outputs go to rows
 no-row-outs : (ps qs : List Place) (ls : List Lit)

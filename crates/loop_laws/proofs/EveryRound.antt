@@ -1,24 +1,18 @@
 -- Every round of a loop program by owners keeps the rules.
-use Rattle.std.proofs.Common.{◌≡◌, ℕ, zero, suc, ◌+◌, ◌-◌, ◌<◌, ◌≤◌, Bool, true, false, List, []}
-use Rattle.std.proofs.Common.{◌∷◌, ◌++◌, map, length, refl, sym, ap, ◌∙◌, subst, arith, ◌⊎◌}
-use Rattle.std.proofs.Common.{inl, inr}
-use Rattle.std.specs.Prelude.{nat_le}
-use Rattle.std.specs.List.{AllByRecursion}
-use Rattle.std.proofs.lemmas.Bool.Decides.{nat_tests}
-use Rattle.std.proofs.lemmas.Bool.{cases_eq, cases_lt, and_parts}
-use Rattle.std.proofs.lemmas.List.{length-map}
+use Rattle.loop_laws.proofs.Common.{◌≡◌, ℕ, zero, suc, ◌+◌, ◌-◌, ◌<◌, ◌≤◌, Bool, true, false, List}
+use Rattle.loop_laws.proofs.Common.{[], ◌∷◌, ◌++◌, map, length, refl, sym, ap, ◌∙◌, subst, arith}
+use Rattle.loop_laws.proofs.Common.{◌⊎◌, inl, inr, nat_le, AllByRecursion, nat_tests, cases_eq}
+use Rattle.loop_laws.proofs.Common.{and_parts, length-map, RoundOf, round_at, rounds, all_rounds}
+use Rattle.loop_laws.proofs.Common.{Space, Sub, Place, Block, StepOf, AllParts, Single, Along}
+use Rattle.loop_laws.proofs.Common.{Flowed, Spot, spot_at, nth_place, is_state, HasCommands}
+use Rattle.std.proofs.lemmas.Bool.{cases_lt}
 use Rattle.bit_rows.specs.declared.TheConstants.{WIDTH_MAX}
-use Rattle.loop_ir.specs.Loops.{RoundOf, round_at, rounds, sub_value, all_rounds}
-use Rattle.loop_ir.specs.declared.ir.Space.{Space}
+use Rattle.loop_ir.specs.Loops.{sub_value}
 use Rattle.loop_ir.specs.declared.ir.Space.TheVariants.{Result, Source, ScratchBit, ScratchWord}
 use Rattle.loop_ir.specs.declared.ir.Space.TheVariants.{Cells}
-use Rattle.loop_ir.specs.declared.ir.Sub.{Sub}
-use Rattle.loop_ir.specs.declared.ir.Place.{Place}
-use Rattle.loop_ir.specs.Plain.{Block, StepOf, AllParts}
-use Rattle.loop_ir.specs.Plain.StepOf.{Single, Along, Flowed}
-use Rattle.loop_ir.specs.Spots.{Spot, spot_at, spot_in, nth_place, nth_spot, IsOwn, is_state}
+use Rattle.loop_ir.specs.Spots.{spot_in, nth_spot, IsOwn}
 use Rattle.loop_ir.specs.WellFormed.{IsOneValue}
-use Rattle.loop_ir.specs.Limits.{HasCommands, IsRound, StepHasValues}
+use Rattle.loop_ir.specs.Limits.{IsRound, StepHasValues}
 use Rattle.loop_laws.specs.Rooms.{Extent, extent, Room, room_at, room_for, Owner, InRoom}
 use Rattle.loop_laws.specs.Rooms.{InCells, Mark, Marked, placed, placed_body, placed_steps, row_in}
 use Rattle.loop_laws.specs.Rooms.{IsOwned, RoomsApart, is_long, fits, all_fit, writes_fit}

@@ -1,5 +1,5 @@
 -- What a body's places keep where the test on owners and subscripts passes.
-use Rattle.std.proofs.Common.{ℕ, zero, suc, ◌<◌, Bool, true, false, List, [], ◌∷◌, length}
+use Rattle.loop_laws.proofs.Common.{ℕ, zero, suc, ◌<◌, Bool, true, false, List, [], ◌∷◌, length}
 use Rattle.loop_ir.specs.declared.ir.Sub.TheVariants as sub
 use Rattle.loop_laws.specs.Rooms.{Room, Owner, InRoom, InCells, Mark}
 

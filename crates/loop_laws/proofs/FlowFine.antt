@@ -1,13 +1,9 @@
 -- When an event of a flow is fine: a body's rows are in range, no register leaves its range, and no
 -- loop has more iterations than the width.
-use Rattle.std.proofs.Common.{◌≡◌, ℕ, ◌+◌, ◌≤◌, true, List, refl}
-use Rattle.std.specs.Prelude.{slice_index}
+use Rattle.loop_laws.proofs.Common.{◌≡◌, ℕ, ◌+◌, ◌≤◌, true, List, refl, slice_index, Move, SetI}
+use Rattle.loop_laws.proofs.Common.{SetN, SetT, Mov, AddI, SubI, Add, EventOf, Done, Moved, Counted}
+use Rattle.loop_laws.proofs.Common.{is_safe}
 use Rattle.std.proofs.lemmas.Bool.{le-leb}
-use Rattle.loop_ir.specs.declared.ir.Move.{Move}
-use Rattle.loop_ir.specs.declared.ir.Move.TheVariants.{SetI, SetN, SetT, Mov, AddI, SubI, Add}
-use Rattle.loop_ir.specs.Flows.{EventOf}
-use Rattle.loop_ir.specs.Flows.EventOf.{Done, Moved, Counted}
-use Rattle.loop_ir.specs.FlowTests.{is_safe}
 
 -- no register leaves its range
 abbrev pub IsSafe : Move → List ℕ → Type 0

@@ -1,12 +1,9 @@
 -- What a run does, by a predicate on what stands before it: each event is fine, and what holds after.
-use Rattle.std.proofs.Common.{◌≡◌, ℕ, zero, suc, Bool, true, false, cond, List, [], ◌∷◌, ◌++◌}
-use Rattle.std.proofs.Common.{refl, sym, ap, ◌∙◌, subst, arith}
-use Rattle.std.specs.Prelude.{slice_set, slice_index, ◌==◌}
+use Rattle.loop_laws.proofs.Common.{◌≡◌, ℕ, zero, suc, Bool, true, false, cond, List, [], ◌∷◌, ◌++◌}
+use Rattle.loop_laws.proofs.Common.{refl, sym, ap, ◌∙◌, subst, arith, slice_set, slice_index, ◌==◌}
+use Rattle.loop_laws.proofs.Common.{FlowOf, TurnsOf, EventOf, RunOf, moved, cycle, run, acts, End}
+use Rattle.loop_laws.proofs.Common.{Do, Put, If, Loop, Last, Turn, Done, Moved, Counted}
 use Rattle.std.proofs.lemmas.Bool.{ne_eqb}
-use Rattle.loop_ir.specs.Flows.{FlowOf, TurnsOf, EventOf, RunOf, moved, cycle, run, acts}
-use Rattle.loop_ir.specs.Flows.FlowOf.{End, Do, Put, If, Loop}
-use Rattle.loop_ir.specs.Flows.TurnsOf.{Last, Turn}
-use Rattle.loop_ir.specs.Flows.EventOf.{Done, Moved, Counted}
 
 module _ (A S : Type 0) (n : ℕ) (Fine : EventOf A → S → Type 0) (does : A → List ℕ → S → S) where
   -- what is to hold of registers and state

@@ -1,15 +1,12 @@
 -- The rounds of flows: what holds of every body holds in each, and those over other things.
-use Rattle.std.proofs.Common.{◌≡◌, ℕ, zero, suc, Bool, true, false, cond, List, [], ◌∷◌, ◌++◌, map}
-use Rattle.std.proofs.Common.{refl, sym, ap, ◌∙◌}
-use Rattle.std.specs.Prelude.{slice_set, slice_index, ◌==◌}
-use Rattle.std.proofs.lemmas.List.{map-append}
-use Rattle.loop_ir.specs.Flows.{FlowOf, TurnsOf, EventOf, RunOf, moved, join, cycle, run, acts}
-use Rattle.loop_ir.specs.Flows.FlowOf.{End, Do, Put, If, Loop}
-use Rattle.loop_ir.specs.Flows.TurnsOf.{Last, Turn}
-use Rattle.loop_ir.specs.Flows.EventOf.{Done, Moved, Counted}
-use Rattle.loop_ir.specs.Flows.{AllFlow, AllActs, flow_map, acts_map, zeros}
-use Rattle.loop_ir.specs.Loops.{RoundOf, rounds_in, flow_rounds}
-use Rattle.std.specs.List.{AllByRecursion}
+use Rattle.loop_laws.proofs.Common.{◌≡◌, ℕ, zero, suc, Bool, true, false, cond, List, [], ◌∷◌, ◌++◌}
+use Rattle.loop_laws.proofs.Common.{map, refl, sym, ap, ◌∙◌, slice_set, slice_index, ◌==◌}
+use Rattle.loop_laws.proofs.Common.{map-append, FlowOf, TurnsOf, EventOf, RunOf, moved, cycle, run}
+use Rattle.loop_laws.proofs.Common.{acts, End, Do, Put, If, Loop, Last, Turn, Done, Moved, Counted}
+use Rattle.loop_laws.proofs.Common.{AllFlow, AllActs, flow_map, zeros, RoundOf, flow_rounds}
+use Rattle.loop_laws.proofs.Common.{AllByRecursion}
+use Rattle.loop_ir.specs.Flows.{join, acts_map}
+use Rattle.loop_ir.specs.Loops.{rounds_in}
 
 module _ (A B : Type 0) (h : A → B) (n : ℕ) where
   -- the same event, of another body

@@ -1,9 +1,8 @@
 -- The test on owners and subscripts is enough for a body.
-use Rattle.std.proofs.Common.{◌≡◌, ℕ, zero, suc, ◌<◌, Bool, true, false, not, List, [], ◌∷◌}
-use Rattle.std.proofs.Common.{length, refl, sym, ap, subst, arith, ◌⊎◌, inl, inr}
-use Rattle.std.specs.Prelude.{◌==◌}
-use Rattle.std.proofs.lemmas.Bool.Decides.{nat_tests}
-use Rattle.std.proofs.lemmas.Bool.{cases_Bool, and_parts, eq-eqb}
+use Rattle.loop_laws.proofs.Common.{◌≡◌, ℕ, zero, suc, ◌<◌, Bool, true, false, List, [], ◌∷◌}
+use Rattle.loop_laws.proofs.Common.{length, refl, sym, ap, subst, arith, ◌⊎◌, inl, inr, ◌==◌}
+use Rattle.loop_laws.proofs.Common.{nat_tests, cases_Bool, and_parts, eq-eqb}
+use Rattle.std.proofs.Common.{not}
 use Rattle.loop_ir.specs.Costs.{sub_code}
 use Rattle.loop_laws.proofs.Same.{sub_true}
 use Rattle.loop_laws.specs.Rooms.{Room, room_for, Owner, InRoom, InCells, same_owner, Mark}

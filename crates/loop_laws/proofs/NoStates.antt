@@ -1,18 +1,11 @@
 -- Bodies and loop programs of which nothing stands in cells.
-use Rattle.std.proofs.Common.{◌≡◌, ℕ, suc, ◌<◌, true, false, List, [], ◌∷◌, ◌++◌, Bool}
-use Rattle.std.proofs.Common.{length, refl, arith}
-use Rattle.std.specs.List.{list_any, list_all, AllByRecursion}
-use Rattle.loop_ir.specs.declared.ir.Place.{Place}
-use Rattle.loop_ir.specs.Plain.{Block, StepOf, AllParts}
-use Rattle.loop_ir.specs.Plain.StepOf.{Single, Along, Flowed}
-use Rattle.loop_ir.specs.Spots.{is_state, nth_place}
-use Rattle.loop_ir.specs.States.{has_states}
-use Rattle.loop_ir.specs.Chains.{states_in, steps_find, chained, flow_finds}
+use Rattle.loop_laws.proofs.Common.{or_parts, ◌≡◌, ℕ, suc, ◌<◌, true, false, List, [], ◌∷◌, ◌++◌}
+use Rattle.loop_laws.proofs.Common.{Bool, length, refl, arith, list_any, list_all, AllByRecursion}
+use Rattle.loop_laws.proofs.Common.{Place, Block, StepOf, AllParts, Single, Along, Flowed, is_state}
+use Rattle.loop_laws.proofs.Common.{nth_place, has_states, states_in, steps_find, chained}
+use Rattle.loop_laws.proofs.Common.{flow_finds, FlowOf, AllFlow, zeros, widths, RoundOf}
+use Rattle.loop_laws.proofs.Common.{flow_rounds}
 pub use Rattle.loop_laws.proofs.Alike.{rows_fit}
-use Rattle.loop_laws.proofs.Alike.{or_parts}
-use Rattle.loop_ir.specs.Flows.{FlowOf, AllFlow, zeros}
-use Rattle.loop_ir.specs.FlowTests.{widths}
-use Rattle.loop_ir.specs.Loops.{RoundOf, flow_rounds}
 use Rattle.loop_laws.proofs.FlowRounds.{run_all}
 
 -- nothing of the body stands in cells

@@ -1,13 +1,11 @@
 -- The registers of two runs: what is alike below 7 stays alike under a move.
-use Rattle.std.proofs.Common.{◌≡◌, ℕ, ◌+◌, ◌-◌, ◌<◌, Bool, true, List, length, refl, sym, ap, ◌∙◌}
-use Rattle.std.proofs.Common.{arith, inl, inr, length-set, get_or-set_other}
-use Rattle.std.specs.Prelude.{slice_index, slice_set, nat_le}
-use Rattle.std.proofs.lemmas.Bool.{eq-eqb, cases_eq}
+use Rattle.loop_laws.proofs.Common.{◌≡◌, ℕ, ◌+◌, ◌-◌, ◌<◌, Bool, true, List, length, refl, sym, ap}
+use Rattle.loop_laws.proofs.Common.{◌∙◌, arith, inl, inr, slice_index, slice_set, nat_le, eq-eqb}
+use Rattle.loop_laws.proofs.Common.{cases_eq, Move, SetI, SetN, SetT, Mov, AddI, SubI, Add, moved}
+use Rattle.loop_laws.proofs.Common.{is_safe}
+use Rattle.std.proofs.Common.{length-set, get_or-set_other}
 use Rattle.std.proofs.lemmas.Grind.{get_or-set_at}
-use Rattle.loop_ir.specs.declared.ir.Move.{Move}
-use Rattle.loop_ir.specs.declared.ir.Move.TheVariants.{SetI, SetN, SetT, Mov, AddI, SubI, Add}
-use Rattle.loop_ir.specs.Flows.{moved}
-use Rattle.loop_ir.specs.FlowTests.{is_low, is_moved, is_safe}
+use Rattle.loop_ir.specs.FlowTests.{is_low, is_moved}
 
 -- both have the same in the registers below 7 that pass this test
 pub record Alike (t : ℕ → Bool) (z g : List ℕ) : Type 0 where

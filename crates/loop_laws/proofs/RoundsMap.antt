@@ -1,9 +1,9 @@
 -- The rounds of a loop program over other things.
-use Rattle.std.proofs.Common.{◌≡◌, ℕ, zero, suc, ◌+◌, List, [], ◌∷◌, ◌++◌, map, refl, ap}
-use Rattle.std.proofs.lemmas.List.{map-append}
-use Rattle.loop_ir.specs.Plain.{StepOf, step_map}
-use Rattle.loop_ir.specs.Plain.StepOf.{Single, Along, Flowed}
-use Rattle.loop_ir.specs.Loops.{RoundOf, round_at, rounds, step_rounds, all_rounds}
+use Rattle.loop_laws.proofs.Common.{◌≡◌, ℕ, zero, suc, ◌+◌, List, [], ◌∷◌, ◌++◌, map, refl, ap}
+use Rattle.loop_laws.proofs.Common.{map-append, StepOf, Single, Along, Flowed, RoundOf, round_at}
+use Rattle.loop_laws.proofs.Common.{rounds, all_rounds}
+use Rattle.loop_ir.specs.Plain.{step_map}
+use Rattle.loop_ir.specs.Loops.{step_rounds}
 use Rattle.loop_laws.proofs.FlowRounds.{round_map, flow_rounds_map}
 
 module _ (A B : Type 0) (h : A → B) (n : ℕ) where

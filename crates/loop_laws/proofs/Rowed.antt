@@ -1,12 +1,7 @@
 -- Bodies whose places all have rows.
-use Rattle.std.proofs.Common.{◌≡◌, ℕ, zero, suc, ◌+◌, ◌<◌, Bool, false, List, [], ◌∷◌}
-use Rattle.std.proofs.Common.{◌++◌, length, refl, arith}
-use Rattle.std.specs.List.{list_any}
-use Rattle.mig_graph.specs.declared.Lit.{Lit}
-use Rattle.loop_ir.specs.declared.ir.Place.{Place}
-use Rattle.loop_ir.specs.Plain.{Block}
-use Rattle.loop_ir.specs.Spots.{nth_place, is_state}
-use Rattle.loop_ir.specs.States.{has_states, row_count, enters, leaves}
+use Rattle.loop_laws.proofs.Common.{◌≡◌, ℕ, zero, suc, ◌+◌, ◌<◌, Bool, false, List, [], ◌∷◌, ◌++◌}
+use Rattle.loop_laws.proofs.Common.{length, refl, arith, list_any, Lit, Place, Block, nth_place}
+use Rattle.loop_laws.proofs.Common.{is_state, has_states, row_count, enters, leaves}
 use Rattle.loop_laws.proofs.Alike.{none_at}
 
 abbrev pub HaveRows : List Place → Type 0

@@ -1,16 +1,10 @@
 -- Named rows that are the same, and writes to them.
-use Rattle.std.proofs.Common.{◌≡◌, ℕ, zero, suc, ◌<◌, ◌≤◌, Bool, true, cond, List}
-use Rattle.std.proofs.Common.{[], ◌∷◌, length, refl, ap, ◌∙◌, inl, inr, arith}
-use Rattle.std.proofs.lemmas.Bool.Decides.{nat_tests}
-use Rattle.std.proofs.lemmas.Bool.{cases_Bool, and_parts}
-use Rattle.mig_graph.specs.declared.Lit.{Lit}
+use Rattle.loop_laws.proofs.Common.{◌≡◌, ℕ, zero, suc, ◌<◌, ◌≤◌, Bool, true, cond, List, [], ◌∷◌}
+use Rattle.loop_laws.proofs.Common.{length, refl, ap, ◌∙◌, inl, inr, arith, nat_tests, cases_Bool}
+use Rattle.loop_laws.proofs.Common.{and_parts, Lit, Space, Sub, Place, Spot, spot_at, nth_place}
 use Rattle.mig_graph.specs.Literals.{lit_value}
 use Rattle.mig_graph.specs.Outputs.{lit_at}
-use Rattle.loop_ir.specs.declared.ir.Space.{Space}
-use Rattle.loop_ir.specs.declared.ir.Sub.{Sub}
-use Rattle.loop_ir.specs.declared.ir.Place.{Place}
-use Rattle.loop_ir.specs.Spots.{Spot, Spots, same_space, same_spot, set_spot, spot_at, nth_place}
-use Rattle.loop_ir.specs.Spots.{write_all}
+use Rattle.loop_ir.specs.Spots.{Spots, same_space, same_spot, set_spot, write_all}
 use Rattle.loop_ir.specs.Costs.{same_sub}
 
 pub sub_true : (s t : Sub) → same_sub s t ≡ true → s ≡ t

@@ -1,11 +1,10 @@
 -- The sum over all rounds of what each body counts.
-use Rattle.std.proofs.Common.{◌≡◌, ℕ, zero, suc, ◌+◌, ◌*◌, List, [], ◌∷◌, ◌++◌, refl}
-use Rattle.std.proofs.Common.{arith}
+use Rattle.loop_laws.proofs.Common.{◌≡◌, ℕ, zero, suc, ◌+◌, List, [], ◌∷◌, ◌++◌, refl, arith}
+use Rattle.loop_laws.proofs.Common.{sum_by-cons, Block, StepOf, Single, Along, Flowed, RoundOf}
+use Rattle.loop_laws.proofs.Common.{round_at, rounds, all_rounds, flow_rounds}
+use Rattle.std.proofs.Common.{◌*◌}
 use Rattle.std.specs.Prelude.{sum_by}
-use Rattle.std.proofs.lemmas.List.Sums.{sum_by-cons, sum_by-append}
-use Rattle.loop_ir.specs.Plain.{Block, StepOf}
-use Rattle.loop_ir.specs.Plain.StepOf.{Single, Along, Flowed}
-use Rattle.loop_ir.specs.Loops.{RoundOf, round_at, rounds, all_rounds, flow_rounds}
+use Rattle.std.proofs.lemmas.List.Sums.{sum_by-append}
 
 -- a number of each body, summed over all rounds
 abbrev pub rounds_sum : (Block → ℕ) → List (RoundOf Block) → ℕ

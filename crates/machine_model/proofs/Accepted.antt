@@ -1,12 +1,12 @@
 -- What an accepted script says.
-use Rattle.std.proofs.Common.{◌≡◌, ℕ, ◌+◌, List, [], ◌∷◌, Option, Some, None, arith}
+use Rattle.machine_model.proofs.Common.{◌≡◌, ℕ, ◌+◌, List, [], ◌∷◌, Option, Some, None, arith}
+use Rattle.machine_model.proofs.Common.{AllByRecursion, Instruction, Init, Bbop, Load, Fill, Print}
+use Rattle.machine_model.proofs.Common.{Free, Order, IsRight}
 use Rattle.std.specs.Prelude.{Result, Ok, Err}
-use Rattle.std.specs.List.{AllByRecursion}
 use Rattle.bbop_isa.specs.declared.instr.ScriptFault.{ScriptFault}
 use Rattle.bbop_isa.specs.declared.instr.ScriptKind.{ScriptKind}
-use Rattle.bbop_isa.specs.Forms.{Instruction, Init, Bbop, Load, Fill, Print, Free, Order, line_of}
+use Rattle.bbop_isa.specs.Forms.{line_of}
 use Rattle.bbop_isa.specs.Lines.{lines_of}
-use Rattle.bbop_isa.specs.Laws.{IsRight}
 use Rattle.bbop_isa.specs.Script.{script_of, script_from, go_on}
 use Rattle.bbop_isa.proofs.Meant.{line_is_right}
 use Rattle.machine_model.specs.Agrees.{IsPlain}

@@ -1,15 +1,11 @@
 -- Events that each bank sees alike: they leave the banks alike, and are counted alike.
-use Rattle.std.proofs.Common.{◌≡◌, ℕ, Bool, true, false, cond, eqb, List, [], ◌∷◌, ◌++◌, refl}
-use Rattle.std.proofs.Common.{sym, ◌∙◌, ap, inl, inr, eq-eqb}
-use Rattle.std.proofs.lemmas.Bool.{ne_eqb}
+use Rattle.machine_model.proofs.Common.{◌≡◌, ℕ, Bool, true, false, cond, eqb, List, [], ◌∷◌, ◌++◌}
+use Rattle.machine_model.proofs.Common.{refl, sym, ◌∙◌, ap, inl, inr, eq-eqb, ne_eqb, fun_ext, Aap}
+use Rattle.machine_model.proofs.Common.{Counters, Banks, Event, after, all_counted, Row, Write}
+use Rattle.machine_model.proofs.Common.{events_of, on_bank_all, projection}
 use Rattle.std.proofs.lemmas.Bool.Decides.{eqb_tells}
-use mathlib.Core.Path.{fun_ext}
-use Rattle.dram_model.specs.declared.address.Command.TheVariants.{Ap, Aap}
-use Rattle.dram_model.specs.declared.dram.Counters.{Counters}
-use Rattle.dram_model.specs.Chip.{Banks, Event, bank_of, after, counted, all_counted}
-use Rattle.dram_model.specs.Chip.Event.{Row, Write}
-use Rattle.dram_model.specs.Events.{events_of}
-use Rattle.dram_model.proofs.EventLaws.{on_bank_all, projection}
+use Rattle.dram_model.specs.declared.address.Command.TheVariants.{Ap}
+use Rattle.dram_model.specs.Chip.{bank_of, counted}
 
 abbrev pub Alike : List Event → List Event → Type 0
 Alike es fs = (bank : ℕ) → events_of bank es ≡ events_of bank fs

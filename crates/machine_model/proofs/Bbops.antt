@@ -1,34 +1,22 @@
 -- A bbop that is done: its binding fits, each object's columns hold what the word machine gives it,
 -- and operands without a row of a destination keep theirs.
-use Rattle.std.proofs.Common.{◌≡◌, ◌≢◌, ℕ, zero, suc, ◌+◌, ◌<◌, ◌≤◌, Bool, true, false, ◌&&◌, List, []}
-use Rattle.std.proofs.Common.{◌∷◌, length, get_or, map, Option, Some, None, refl, sym, ◌∙◌, ap}
-use Rattle.std.proofs.Common.{subst, arith, inl, inr}
-use Rattle.std.specs.Prelude.{is_none, slice_index}
-use Rattle.std.specs.List.{AllByRecursion, list_any}
-use Rattle.std.specs.Option.{unwrap_or}
-use Rattle.std.specs.Str.{bytes_eq}
-use Rattle.std.proofs.lemmas.Bool.{cases_lt}
-use Rattle.std.proofs.lemmas.Bool.Decides.{nat_tests}
-use Rattle.std.proofs.lemmas.List.{length-map, get_or-map}
+use Rattle.machine_model.proofs.Common.{false_from_ne_true, or_parts, ◌≡◌, ◌≢◌, ℕ, zero, suc, ◌+◌}
+use Rattle.machine_model.proofs.Common.{◌<◌, ◌≤◌, Bool, true, false, ◌&&◌, List, [], ◌∷◌, length}
+use Rattle.machine_model.proofs.Common.{get_or, map, Option, Some, None, refl, sym, ◌∙◌, ap, subst}
+use Rattle.machine_model.proofs.Common.{arith, inl, inr, is_none, slice_index, AllByRecursion}
+use Rattle.machine_model.proofs.Common.{list_any, unwrap_or, bytes_eq, cases_lt, nat_tests}
+use Rattle.machine_model.proofs.Common.{length-map, Geometry, Column, run, blank, Banks, number}
+use Rattle.machine_model.proofs.Common.{below, segments_of, column_count, Kind, bound, Keeps}
+use Rattle.machine_model.proofs.Common.{issues_of, need, results, width, Fits, IsTouched, Object}
+use Rattle.machine_model.proofs.Common.{has_row, is_free, are_free, free, end_of, AreApart, Named}
+use Rattle.machine_model.proofs.Common.{IsTable, objects_of, has_name, limit_of, Part, Place}
+use Rattle.machine_model.proofs.Common.{WaveJob}
+use Rattle.std.proofs.lemmas.List.{get_or-map}
 use Rattle.std.proofs.lemmas.List.FromFn.{fill_by_all}
 use Rattle.std.proofs.Math.ListN.{get_or-map as get_or-map-all}
-use Rattle.dram_model.specs.declared.geometry.Geometry.{Geometry}
-use Rattle.dram_model.specs.Column.{Column, run, blank}
-use Rattle.dram_model.specs.Chip.{Banks}
-use Rattle.dram_model.specs.Elements.{number, below, segments_of, column_count}
-use Rattle.op_text.specs.declared.tree.Kind.{Kind}
-use Rattle.uprog_code.specs.Bound.{bound}
-use Rattle.uprog_code.specs.Implements.{Keeps, numbers}
-use Rattle.uprog_code.specs.Machine.{issues_of}
-use Rattle.uprog_code.specs.Shape.{need, results, width}
-use Rattle.uprog_code.specs.Fits.{Fits, AreBelow, ranges, IsInSome, ArePairwiseApart, IsTouched}
+use Rattle.uprog_code.specs.Implements.{numbers}
+use Rattle.uprog_code.specs.Fits.{AreBelow, ranges, IsInSome, ArePairwiseApart}
 use Rattle.uprog_code.specs.Fits.{AreApart as RangesApart}
-use Rattle.object_alloc.specs.declared.table.Object.{Object}
-use Rattle.object_alloc.specs.Free.{has_row, is_free, are_free, free, end_of, AreApart}
-use Rattle.object_alloc.specs.Listed.{Named, IsTable, objects_of, has_name, limit_of}
-use Rattle.bbop_isa.specs.declared.instr.Part.{Part}
-use Rattle.bbop_isa.specs.declared.instr.Place.{Place}
-use Rattle.wave_model.specs.Schedule.{WaveJob}
 use Rattle.machine_model.specs.Columns.{object_size, segments, columns}
 use Rattle.machine_model.specs.Places.{cut, is_past, seen, share}
 use Rattle.machine_model.specs.Routines.{Routine, Performs}
@@ -44,11 +32,7 @@ use Rattle.machine_model.proofs.Below.{all_in, base_free, row_free, row_within, 
 use Rattle.machine_model.proofs.Below.{below_same, through_same, number_same}
 use Rattle.machine_model.proofs.Placed.{IsPlaced, AreResults}
 use Rattle.machine_model.proofs.Sliced.{reads, has_from, within, map_cong, map_map}
-use Rattle.machine_model.proofs.Merged.{meet, spelled_after, or_false}
-
-pub if_not_true : (b : Bool) → (b ≡ true → ⊥) → b ≡ false
-if_not_true true h = absurd (h refl)
-if_not_true false h = refl
+use Rattle.machine_model.proofs.Merged.{meet, spelled_after}
 
 -- objects at two places have no row in common
 pub apart_places : (limit : ℕ) (state : List Held) (i j : ℕ) → IsTable limit (table_of state)
@@ -57,7 +41,7 @@ pub apart_places : (limit : ℕ) (state : List Held) (i j : ℕ) → IsTable lim
 apart_places limit state i j t a b ne row h =
     elim (cases_lt i j) [
       | inl lt ↦ rows_apart limit state t i j no_one lt b row h
-      | inr ge ↦ if_not_true _ (λ r. let f = rows_apart limit state t j i no_one (omega arith) a row
+      | inr ge ↦ false_from_ne_true _ (λ r. let f = rows_apart limit state t j i no_one (omega arith) a row
           r in cc)
     ]
 
@@ -131,7 +115,7 @@ part_end o (Some p) h = omega (arith, within o p h)
 -- what is apart from an object is apart from its parts
 by_part : (o p : Object) → AreApart o p → (part : Option Part) → is_past part p ≡ false
     → AreApart o (cut part p)
-by_part o p a part h row has = if_not_true (has_row (cut part p) row) (λ also.
+by_part o p a part h row has = false_from_ne_true (has_row (cut part p) row) (λ also.
     let in_p = part_row p part row h also in
     let not = a row has in
     cc)
@@ -140,7 +124,7 @@ by_part o p a part h row has = if_not_true (has_row (cut part p) row) (λ also.
 parts_apart : (o : Object) (p q : Option Part) → share p q ≡ false → AreApart (cut p o) (cut q o)
 parts_apart o None q h row has = cc
 parts_apart o (Some p) None h row has = cc
-parts_apart o (Some p) (Some q) h row has = if_not_true (has_row (cut (Some q) o) row) (λ also.
+parts_apart o (Some p) (Some q) h row has = false_from_ne_true (has_row (cut (Some q) o) row) (λ also.
     grind (arith, nat_tests))
 
 -- objects that are apart are so as ranges
@@ -245,7 +229,7 @@ module _ (g : Geometry) (state : List Held) (count n : ℕ)
   one_apart kind p op [] (q ∷ places) x h = elim x [ ]
   one_apart kind p op (k ∷ kinds) [] x h = elim x [ ]
   one_apart kind p op (k ∷ kinds) (q ∷ places) (more _ _ _ _ other rest) h =
-      let both = or_false (in_common p q) (meets_one places p) h in (
+      let both = or_parts (in_common p q) (meets_one places p) h in (
         operands_apart kind p k q op other both.0,
         one_apart kind p op kinds places rest both.1,
       )
@@ -264,7 +248,7 @@ module _ (g : Geometry) (state : List Held) (count n : ℕ)
   later_apart kind p op before ne (k ∷ kinds) (q ∷ places) (more _ _ _ _ other rest) h = (
     (λ row a b. operands_apart k q kind p other op (ne q h.0) row b a),
     later_apart kind p op (q ∷ before)
-        (λ m r. ne m (or_false (in_common m q) (meets_one before m) r).1) kinds places rest h.1,
+        (λ m r. ne m (or_parts (in_common m q) (meets_one before m) r).1) kinds places rest h.1,
   )
 
   all_apart : (before : List Place) (kinds : List Kind) (places : List Place)
@@ -275,7 +259,7 @@ module _ (g : Geometry) (state : List Held) (count n : ℕ)
   all_apart before (kind ∷ kinds) [] x h = elim x [ ]
   all_apart before (kind ∷ kinds) (p ∷ places) (more _ _ _ _ op rest) h = (
     later_apart kind p op (p ∷ before)
-        (λ m r. (or_false (in_common m p) (meets_one before m) r).0) kinds places rest h.1,
+        (λ m r. (or_parts (in_common m p) (meets_one before m) r).0) kinds places rest h.1,
     all_apart (p ∷ before) kinds places rest h.1,
   )
 
@@ -331,7 +315,7 @@ no_result state count n row [] (p ∷ places) x h is = elim x [ ]
 no_result state count n row (kind ∷ kinds) [] x h is = elim x [ ]
 no_result state count n row (kind ∷ kinds) (p ∷ places) (more _ _ _ _ op rest) h is =
     let o = rows_of (table_of state) p in
-    let parts = or_false (has_row o row)
+    let parts = or_parts (has_row o row)
     (list_any (λ p. has_row (rows_of (table_of state) p) row) places) h in
     elim is [
       | inl r ↦ let has = has_from o row r.0 (omega (arith, r.1, op.wide)) in
@@ -449,7 +433,7 @@ pub absent_is_nothing : (table : List Named) (name : List ℕ) → has_name tabl
     → object_named table name ≡ nothing
 absent_is_nothing [] name h = refl
 absent_is_nothing (p ∷ table) name h =
-    let both = or_false (bytes_eq p.0 name) (has_name table name) h in
+    let both = or_parts (bytes_eq p.0 name) (has_name table name) h in
     rw both.0 (absent_is_nothing table name both.1)
 
 -- the object at a place of a state is apart from that of another name

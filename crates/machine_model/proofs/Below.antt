@@ -1,22 +1,13 @@
 -- Columns of the first banks, and numbers in them.
-use Rattle.std.proofs.Common.{◌≡◌, ℕ, zero, suc, ◌+◌, ◌*◌, ◌<◌, ◌≤◌, Bool, true, false, not, ◌&&◌}
-use Rattle.std.proofs.Common.{cond, ltb, List, [], ◌∷◌, ◌++◌, length, get_or, map, Option, Some}
-use Rattle.std.proofs.Common.{None, refl, sym, ◌∙◌, ap, arith, inl, inr, length-append}
-use Rattle.std.specs.Prelude.{is_none}
-use Rattle.std.specs.List.{range_with_len, flat_map, find, list_all}
-use Rattle.std.specs.Option.{unwrap_or}
-use Rattle.std.proofs.lemmas.Bool.{cases_lt, lt-ltb}
-use Rattle.std.proofs.lemmas.Bool.Decides.{nat_tests}
-use Rattle.std.proofs.lemmas.List.{map-append}
-use Rattle.dram_model.specs.declared.address.Cell.TheVariants.{D}
-use Rattle.bit_rows.specs.Bits.{value}
-use Rattle.dram_model.specs.Column.{Column, run}
-use Rattle.dram_model.specs.Chip.{Banks}
-use Rattle.dram_model.specs.Elements.{number}
-use Rattle.object_alloc.specs.declared.table.Object.{Object}
-use Rattle.object_alloc.specs.Free.{has_row, is_free, are_free, free}
-use Rattle.dram_model.specs.Elements.{below}
-use Rattle.wave_model.specs.Schedule.{WaveJob}
+use Rattle.machine_model.proofs.Common.{◌≡◌, ℕ, zero, suc, ◌+◌, ◌*◌, ◌<◌, ◌≤◌, Bool, true, false}
+use Rattle.machine_model.proofs.Common.{not, ◌&&◌, cond, ltb, List, [], ◌∷◌, ◌++◌, length, get_or}
+use Rattle.machine_model.proofs.Common.{map, Option, Some, None, refl, sym, ◌∙◌, ap, arith, inl}
+use Rattle.machine_model.proofs.Common.{inr, length-append, is_none, range_with_len, find}
+use Rattle.machine_model.proofs.Common.{unwrap_or, cases_lt, lt-ltb, nat_tests, map-append, D}
+use Rattle.machine_model.proofs.Common.{value, Column, run, Banks, number, Object, has_row, is_free}
+use Rattle.machine_model.proofs.Common.{are_free, free, below, WaveJob}
+use Rattle.std.proofs.lemmas.Bool.{and_parts}
+use Rattle.std.specs.List.{flat_map, list_all}
 use Rattle.machine_model.specs.Steps.{through}
 
 map_both : {X Y Z : Type 0} (f : X → Z) (h : Y → X) (g : Y → Z) (ys : List Y)
@@ -99,16 +90,12 @@ pub number_same : (base n : ℕ) (s t : Column)
     → number base n t ≡ number base n s
 number_same base n s t e = ap value (rows_same s t base n e)
 
-and_both : (a b : Bool) → (a && b) ≡ true → (a ≡ true) × (b ≡ true)
-and_both true b h = (refl, h)
-and_both false b h = cc
-
 -- what holds of a range of rows holds of each of them
 pub all_in : (p : ℕ → Bool) (a n c : ℕ) → list_all p (range_with_len a n) ≡ true → a ≤ c → c < a + n
     → p c ≡ true
 all_in p a zero c h l m = absurd (omega arith)
 all_in p a (suc n) c h l m =
-    let both = and_both (p a) (list_all p (range_with_len (a + 1) n)) h in
+    let both = and_parts (p a) (list_all p (range_with_len (a + 1) n)) h in
     elim (cases_lt a c) [
       | inl lt ↦ all_in p (a + 1) n c both.1 (omega arith) (omega arith)
       | inr ge ↦ let e : a ≡ c = omega arith in ap p (sym e) ∙ both.0
@@ -117,8 +104,8 @@ all_in p a (suc n) c h l m =
 pub all_get : {X : Type 0} (p : X → Bool) (xs : List X) (i : ℕ) (d : X) → list_all p xs ≡ true
     → i < length xs → p (get_or xs i d) ≡ true
 all_get p [] i d h l = absurd (omega arith)
-all_get p (x ∷ xs) zero d h l = (and_both (p x) (list_all p xs) h).0
-all_get p (x ∷ xs) (suc i) d h l = all_get p xs i d (and_both (p x) (list_all p xs) h).1
+all_get p (x ∷ xs) zero d h l = (and_parts (p x) (list_all p xs) h).0
+all_get p (x ∷ xs) (suc i) d h l = all_get p xs i d (and_parts (p x) (list_all p xs) h).1
     (omega arith)
 
 find_case : (p : ℕ → Bool) (a n b : ℕ) (t : Bool) → p a ≡ t
@@ -152,7 +139,7 @@ pub row_free : (limit : ℕ) (objects : List Object) (row i : ℕ) (d : Object)
     → is_free limit objects row ≡ true → i < length objects
     → (row < limit) × (has_row (get_or objects i d) row ≡ false)
 row_free limit objects row i d h l =
-    let both = and_both (ltb row limit) (list_all (λ o. not (has_row o row)) objects) h in
+    let both = and_parts (ltb row limit) (list_all (λ o. not (has_row o row)) objects) h in
     let none : not (has_row (get_or objects i d) row) ≡ true =
     all_get (λ o. not (has_row o row)) objects i d both.1 l in
     (grind (arith, nat_tests), not_true (has_row (get_or objects i d) row) none) where
@@ -163,5 +150,5 @@ row_free limit objects row i d h l =
 -- a free row is one that objects may lie in
 pub row_within : (limit : ℕ) (objects : List Object) (row : ℕ) → is_free limit objects row ≡ true
     → row < limit
-row_within limit objects row h = let both = and_both (ltb row limit)
+row_within limit objects row h = let both = and_parts (ltb row limit)
     (list_all (λ o. not (has_row o row)) objects) h in grind (arith, nat_tests)

@@ -1,34 +1,22 @@
 -- How much an instruction does at most.
-use Rattle.std.proofs.Common.{◌≡◌, ℕ, zero, suc, ◌+◌, ◌*◌, ◌<◌, ◌≤◌, Bool, true, false, cond}
-use Rattle.std.proofs.Common.{eqb, leb, List, [], ◌∷◌, length, Option, Some, None, refl}
-use Rattle.std.proofs.Common.{arith, get_or, sym, subst}
-use Rattle.std.specs.Prelude.{count_by, slice_get, slice_index, slice_set, is_none, ◌-◌}
-use Rattle.std.specs.List.{AllByRecursion}
-use Rattle.std.proofs.Math.Nat.{mul-le-mul, suc-mul, mul-add}
-use Rattle.std.proofs.lemmas.List.Sums.{sum_by-cons}
-use Rattle.std.proofs.lemmas.List.Elements.{recursion_from_All}
-use Rattle.dram_model.specs.declared.geometry.Geometry.{Geometry}
-use Rattle.dram_model.specs.Elements.{column_count, segments_of}
-pub use Rattle.dram_model.proofs.Shapes.{geometry_parts}
-use Rattle.bit_rows.specs.declared.TheConstants.{WIDTH_MAX}
+use Rattle.machine_model.proofs.Common.{◌≡◌, ℕ, zero, suc, ◌+◌, ◌*◌, ◌<◌, ◌≤◌, Bool, true, false}
+use Rattle.machine_model.proofs.Common.{cond, eqb, leb, List, [], ◌∷◌, length, Option, Some, None}
+use Rattle.machine_model.proofs.Common.{refl, arith, get_or, sym, subst, count_by, slice_index}
+use Rattle.machine_model.proofs.Common.{is_none, AllByRecursion, suc-mul, sum_by-cons}
+use Rattle.machine_model.proofs.Common.{recursion_from_All, Geometry, column_count, segments_of}
+use Rattle.machine_model.proofs.Common.{WIDTH_MAX, Counts, Uop, Shape, Issue, IssueAap, IssueAp}
+use Rattle.machine_model.proofs.Common.{Trace, Ended, Stuck, trace, issues_of, issues_aap}
+use Rattle.machine_model.proofs.Common.{issues_ap, counts_of, Object, Named, Part, Place}
+use Rattle.machine_model.proofs.Common.{Instruction, Init, Bbop, Load, Fill, Print, Free, Order}
+use Rattle.std.specs.Prelude.{slice_get, slice_set, ◌-◌}
+use Rattle.std.proofs.Math.Nat.{mul-le-mul, mul-add}
 use Rattle.uprog_code.specs.declared.TheConstants.{WALK_MAX}
-use Rattle.uprog_code.specs.declared.walker.Counts.{Counts}
-use Rattle.uprog_code.specs.declared.code.Uop.{Uop}
 use Rattle.uprog_code.specs.declared.code.Uop.TheVariants.{Done, SetI, SetN, SetT, Mov, Add, AddI}
 use Rattle.uprog_code.specs.declared.code.Uop.TheVariants.{SubI, Bnez, Aap, Ap}
-use Rattle.uprog_code.specs.Shape.{Shape}
-use Rattle.uprog_code.specs.Machine.{Issue, IssueAap, IssueAp, Trace, Ended, Stuck, Next, act}
-use Rattle.uprog_code.specs.Machine.{act_at}
-use Rattle.uprog_code.specs.Machine.{onto, issued, all_in_range, command_at, issue, start, trace}
-use Rattle.uprog_code.specs.Machine.{issues_of}
+use Rattle.uprog_code.specs.Machine.{Next, act, act_at, onto, issued, all_in_range, command_at}
+use Rattle.uprog_code.specs.Machine.{issue, start}
 use Rattle.uprog_code.specs.declared.walker.Why3.TheVariants.{Index, Register}
-use Rattle.uprog_code.specs.Count.{issues_aap, issues_ap, counts_of}
-use Rattle.object_alloc.specs.declared.table.Object.{Object}
-use Rattle.object_alloc.specs.Listed.{Named}
-use Rattle.bbop_isa.specs.declared.instr.Part.{Part}
-use Rattle.bbop_isa.specs.declared.instr.Place.{Place}
-use Rattle.bbop_isa.specs.Forms.{Instruction}
-use Rattle.bbop_isa.specs.Forms.{Init, Bbop, Load, Fill, Print, Free, Order}
+pub use Rattle.dram_model.proofs.Shapes.{geometry_parts}
 use Rattle.machine_model.specs.declared.Why.{Why}
 use Rattle.machine_model.specs.Columns.{segments}
 use Rattle.machine_model.specs.Places.{cut, is_past}

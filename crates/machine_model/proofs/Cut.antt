@@ -1,12 +1,11 @@
 -- How the code cuts a script into pieces.
-use Rattle.std.proofs.Common.{◌≡◌, ℕ, zero, suc, ◌+◌, ◌<◌, ◌≤◌, Bool, true, false, cond, eqb, List}
-use Rattle.std.proofs.Common.{[], ◌∷◌, ◌++◌, length, take, drop, refl, sym, ◌∙◌, ap, subst, arith}
-use Rattle.std.proofs.Common.{inl, inr, eq-eqb, append-nil, append_assoc, length-append}
+use Rattle.machine_model.proofs.Common.{◌≡◌, ℕ, zero, suc, ◌+◌, ◌<◌, ◌≤◌, Bool, true, false, cond}
+use Rattle.machine_model.proofs.Common.{eqb, List, [], ◌∷◌, ◌++◌, length, take, drop, refl, sym}
+use Rattle.machine_model.proofs.Common.{◌∙◌, ap, subst, arith, inl, inr, eq-eqb, append-nil}
+use Rattle.machine_model.proofs.Common.{append_assoc, length-append, AllByRecursion, prefix_len}
+use Rattle.machine_model.proofs.Common.{cases_lt, ne_eqb, Instruction}
 use Rattle.std.specs.Prelude.{min}
-use Rattle.std.specs.List.{AllByRecursion, prefix_len}
-use Rattle.std.proofs.lemmas.Bool.{cases_lt, ne_eqb}
 use Rattle.std.proofs.Math.Nat.{min-eq_left, min-eq_right}
-use Rattle.bbop_isa.specs.Forms.{Instruction}
 use Rattle.machine_model.specs.Script.{is_bbop}
 use Rattle.machine_model.specs.Pieces.{Piece, Wave, Alone, pieces_from, pieces, wave_size, IsPiece}
 use Rattle.machine_model.specs.Laws.{PiecesAreCut}

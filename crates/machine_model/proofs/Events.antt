@@ -1,28 +1,21 @@
 -- The events of a script.
-use Rattle.std.proofs.Common.{◌≡◌, ℕ, zero, suc, ◌+◌, ◌*◌, List, [], ◌∷◌, Option, Some, None, Bool}
-use Rattle.std.proofs.Common.{true, false, map, refl, sym, ◌∙◌, ap, arith, append-nil, cond}
-use Rattle.std.specs.Prelude.{flat_map, count_by, is_none}
-use Rattle.std.proofs.Math.Nat.{suc-mul, mul-suc}
-use Rattle.std.proofs.lemmas.List.Sums.{sum_by-cons}
-use Rattle.std.specs.List.{range_with_len}
-use mathlib.Core.Path.{fun_ext}
-use Rattle.dram_model.specs.declared.geometry.Geometry.{Geometry}
-use Rattle.dram_model.specs.declared.dram.Counters.{Counters}
-use Rattle.dram_model.specs.Chip.{Banks, Event, after, all_counted}
-use Rattle.dram_model.specs.Events.{row_events}
-use Rattle.dram_model.proofs.EventLaws.{after-append, all_counted-append}
-use Rattle.uprog_code.specs.declared.walker.Counts.{Counts}
-use Rattle.uprog_code.specs.Shape.{Shape}
-use Rattle.uprog_code.specs.Machine.{Issue, IssueAap, IssueAp, issues_of}
-use Rattle.uprog_code.specs.Bound.{Bound, bound}
-use Rattle.uprog_code.specs.Count.{counts_of, issues_aap, issues_ap}
-use Rattle.object_alloc.specs.Listed.{Named}
-use Rattle.bbop_isa.specs.Forms.{Init, Bbop, Load, Fill, Print, Free, Order}
-use Rattle.bbop_isa.specs.declared.instr.Place.{Place}
+use Rattle.machine_model.proofs.Common.{◌≡◌, ℕ, zero, suc, ◌+◌, ◌*◌, List, [], ◌∷◌, Option, Some}
+use Rattle.machine_model.proofs.Common.{None, Bool, true, false, map, refl, sym, ◌∙◌, ap, arith}
+use Rattle.machine_model.proofs.Common.{append-nil, cond, flat_map, count_by, is_none, suc-mul}
+use Rattle.machine_model.proofs.Common.{sum_by-cons, range_with_len, fun_ext, Geometry, Counters}
+use Rattle.machine_model.proofs.Common.{Banks, Event, after, all_counted, row_events, after-append}
+use Rattle.machine_model.proofs.Common.{Counts, Shape, Issue, IssueAap, IssueAp, issues_of, bound}
+use Rattle.machine_model.proofs.Common.{counts_of, issues_aap, issues_ap, Named, Init, Bbop, Load}
+use Rattle.machine_model.proofs.Common.{Fill, Print, Free, Order, Place, WaveJob, Object, bit_at}
+use Rattle.machine_model.proofs.Common.{bit_number, Aap, Row, Write, padded_to, Instruction}
+use Rattle.std.proofs.Math.Nat.{mul-suc}
+use Rattle.dram_model.proofs.EventLaws.{all_counted-append}
+use Rattle.uprog_code.specs.Bound.{Bound}
+use Rattle.dram_model.specs.declared.address.Addr.{Addr}
+use Rattle.dram_model.specs.Elements.{row_bits}
 use Rattle.machine_model.specs.declared.Why.{Why}
 use Rattle.machine_model.specs.Routines.{Routine, Routines}
 use Rattle.machine_model.specs.Refusals.{refusal}
-use Rattle.wave_model.specs.Schedule.{WaveJob}
 use Rattle.machine_model.specs.Steps.{job_of, job_events, own_events, events_of, through}
 use Rattle.machine_model.specs.Steps.{rowed, banks_after, table_after, if_done, times, counts_for}
 use Rattle.machine_model.specs.Steps.{reply_to, reply_by, binding, issues_at, bound_at}
@@ -32,14 +25,7 @@ use Rattle.machine_model.specs.Script.{rows_if_done, sum_done}
 use Rattle.machine_model.specs.Columns.{segments, object_size}
 use Rattle.machine_model.specs.Steps.{new_object, fill_events}
 use Rattle.machine_model.specs.Refusals.{rows_of}
-use Rattle.object_alloc.specs.declared.table.Object.{Object}
-use Rattle.bit_rows.specs.Bits.{bit_at, bit_number}
-use Rattle.dram_model.specs.declared.address.Addr.{Addr}
 use Rattle.dram_model.specs.declared.address.Addr.TheVariants as addr
-use Rattle.dram_model.specs.declared.address.Command.TheVariants.{Aap}
-use Rattle.dram_model.specs.Chip.Event.{Row, Write}
-use Rattle.dram_model.specs.Elements.{padded_to, row_bits}
-use Rattle.bbop_isa.specs.Forms.{Instruction}
 use Rattle.machine_model.proofs.Fills.{through_bank}
 
 job_is_through : (job : WaveJob) (banks : Banks) → after (job_events job) banks ≡ through job banks

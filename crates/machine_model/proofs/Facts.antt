@@ -1,21 +1,15 @@
 -- What is known of an instruction that is not refused.
-use Rattle.std.proofs.Common.{◌≡◌, ℕ, zero, suc, ◌+◌, Bool, true, false, not, eqb, List, [], ◌∷◌}
-use Rattle.std.proofs.Common.{◌++◌, length, map, Option, Some, None, refl, sym, ◌∙◌, ap, subst}
-use Rattle.std.proofs.Common.{arith, length-append}
-use Rattle.std.specs.Prelude.{is_none, take, drop}
-use Rattle.std.specs.List.{zip, AllByRecursion}
-use Rattle.std.proofs.lemmas.Bool.Decides.{nat_tests}
-use Rattle.op_text.specs.declared.tree.Kind.{Kind}
-use Rattle.uprog_code.specs.Shape.{width, need, results}
-use Rattle.dram_model.specs.declared.geometry.Geometry.{Geometry}
-use Rattle.object_alloc.specs.declared.table.Object.{Object}
-use Rattle.object_alloc.specs.Free.{free}
-use Rattle.object_alloc.specs.Listed.{Named, objects_of, has_name}
-use Rattle.bbop_isa.specs.declared.instr.Place.{Place}
+use Rattle.machine_model.proofs.Common.{◌≡◌, ℕ, zero, suc, ◌+◌, Bool, true, false, not, eqb, List}
+use Rattle.machine_model.proofs.Common.{[], ◌∷◌, ◌++◌, length, map, Option, Some, None, refl, sym}
+use Rattle.machine_model.proofs.Common.{◌∙◌, ap, subst, arith, length-append, is_none}
+use Rattle.machine_model.proofs.Common.{AllByRecursion, nat_tests, Kind, width, need, results}
+use Rattle.machine_model.proofs.Common.{Geometry, Object, free, Named, objects_of, has_name, Place}
+use Rattle.machine_model.proofs.Common.{limit_of}
+use Rattle.std.specs.Prelude.{take, drop}
+use Rattle.std.specs.List.{zip}
 use Rattle.machine_model.specs.declared.Why.{Why}
 use Rattle.machine_model.specs.declared.Why.TheVariants as why
 use Rattle.machine_model.specs.Routines.{Routine}
-use Rattle.object_alloc.specs.Listed.{limit_of}
 use Rattle.machine_model.specs.Refusals.{first, when, at_place, rows_of, goes_past, is_absent, is_misfit}
 use Rattle.machine_model.specs.Refusals.{walks_badly, bbop_conditions, dsts_in, srcs_in, meets_one}
 use Rattle.machine_model.specs.Refusals.{meet_before}

@@ -1,34 +1,22 @@
 -- A fill is a job of its own commands, and leaves its value in every column.
-use Rattle.std.proofs.Common.{◌≡◌, ℕ, zero, suc, ◌+◌, ◌%◌, ◌^◌, ◌<◌, ◌≤◌, Bool, true}
-use Rattle.std.proofs.Common.{false, not, cond, eqb, ltb, List, [], ◌∷◌, length, map, refl, sym}
-use Rattle.std.proofs.Common.{◌∙◌, ap, subst, arith, inl, inr, eq-eqb}
-use Rattle.std.specs.List.{range_with_len, flat_map}
-use Rattle.std.specs.Prelude.{replicate}
-use Rattle.std.proofs.lemmas.Bool.{cases_lt, ne_eqb, lt-ltb}
-use Rattle.std.proofs.lemmas.Bool.Decides.{nat_tests}
-use Rattle.std.proofs.Math.Nat.{mod-eq_of_lt, div-one}
-use mathlib.Core.Path.{fun_ext}
-use Rattle.dram_model.specs.declared.geometry.Geometry.{Geometry}
-use Rattle.dram_model.specs.declared.address.Addr.TheVariants as addr
-use Rattle.dram_model.specs.declared.address.Cell.TheVariants.{D}
-use Rattle.dram_model.specs.declared.address.Command.{Command}
-use Rattle.dram_model.specs.declared.address.Command.TheVariants.{Aap}
-use Rattle.bit_rows.specs.Bits.{value, bit_number, bit_at}
-use Rattle.dram_model.specs.Column.{Column, step, run}
-use Rattle.dram_model.specs.Chip.{Banks, Event, after}
-use Rattle.dram_model.specs.Chip.Event.{Row}
-use Rattle.dram_model.specs.Events.{row_events}
-use Rattle.dram_model.proofs.EventLaws.{after-append, on-its-bank, on-others}
+use Rattle.machine_model.proofs.Common.{◌≡◌, ℕ, zero, suc, ◌+◌, ◌%◌, ◌^◌, ◌<◌, ◌≤◌, Bool, true}
+use Rattle.machine_model.proofs.Common.{false, not, cond, eqb, ltb, List, [], ◌∷◌, length, map}
+use Rattle.machine_model.proofs.Common.{refl, sym, ◌∙◌, ap, subst, arith, inl, inr, eq-eqb}
+use Rattle.machine_model.proofs.Common.{range_with_len, replicate, cases_lt, ne_eqb, lt-ltb}
+use Rattle.machine_model.proofs.Common.{nat_tests, mod-eq_of_lt, fun_ext, Geometry, D, Command, Aap}
+use Rattle.machine_model.proofs.Common.{value, bit_number, bit_at, Column, run, Banks, Event, after}
+use Rattle.machine_model.proofs.Common.{Row, row_events, after-append, number, Object, has_row}
+use Rattle.machine_model.proofs.Common.{AreApart, column_count, below, WaveJob}
+use Rattle.std.specs.List.{flat_map}
+use Rattle.std.proofs.Math.Nat.{div-one}
+use Rattle.dram_model.specs.Column.{step}
+use Rattle.dram_model.proofs.EventLaws.{on-its-bank, on-others}
 use Rattle.dram_model.proofs.RowWrites.{rows_are, value_bits}
-use Rattle.dram_model.specs.Elements.{number}
-use Rattle.object_alloc.specs.declared.table.Object.{Object}
-use Rattle.object_alloc.specs.Free.{has_row, AreApart}
-use Rattle.dram_model.specs.Elements.{column_count, below}
+use Rattle.dram_model.specs.declared.address.Addr.TheVariants as addr
 use Rattle.machine_model.specs.Columns.{object_size, segments, columns}
 use Rattle.machine_model.proofs.Below.{below_run, below_same, below_length, through_in}
 use Rattle.machine_model.proofs.Below.{through_same, number_same}
 use Rattle.machine_model.proofs.Sliced.{has_from}
-use Rattle.wave_model.specs.Schedule.{WaveJob}
 use Rattle.machine_model.specs.Steps.{through, fill_events}
 
 -- row base + k takes bit k of the value, for n bits from bit a on

@@ -1,12 +1,11 @@
 -- Where a condition holds first.
-use Rattle.std.proofs.Common.{◌≡◌, ℕ, ◌+◌, Bool, true, false, not, cond, List, [], ◌∷◌, map, length}
-use Rattle.std.proofs.Common.{Option, Some, None, refl, ◌∙◌, ap, arith, position}
-use Rattle.std.specs.Prelude.{nat_lt, is_some, ◌||◌}
-use Rattle.std.specs.List.{prefix_len, find}
-use Rattle.std.specs.Option.{option_map}
-use Rattle.std.specs.Str.{bytes_eq}
-use Rattle.std.proofs.lemmas.Bool.Decides.{nat_tests}
-use Rattle.object_alloc.specs.Listed.{Named, has_name, look_up}
+use Rattle.machine_model.proofs.Common.{◌≡◌, ℕ, ◌+◌, Bool, true, false, not, cond, List, [], ◌∷◌}
+use Rattle.machine_model.proofs.Common.{map, length, Option, Some, None, refl, ◌∙◌, ap, arith, ◌||◌}
+use Rattle.machine_model.proofs.Common.{prefix_len, find, option_map, bytes_eq, nat_tests, Named}
+use Rattle.machine_model.proofs.Common.{has_name}
+use Rattle.std.proofs.Common.{position}
+use Rattle.std.specs.Prelude.{nat_lt, is_some}
+use Rattle.object_alloc.specs.Listed.{look_up}
 use Rattle.machine_model.specs.declared.Why.{Why}
 use Rattle.machine_model.specs.Refusals.{at_place}
 

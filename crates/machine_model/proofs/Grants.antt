@@ -1,11 +1,8 @@
 -- A bbop that is not refused may run.
-use Rattle.std.proofs.Common.{◌≡◌, ℕ, List, ◌∷◌, Option, Some, None, subst}
-use Rattle.dram_model.specs.declared.geometry.Geometry.{Geometry}
-use Rattle.uprog_code.specs.Machine.{Trace, Ended, Stuck, HasEnded}
-use Rattle.uprog_code.specs.Fits.{Fits}
-use Rattle.object_alloc.specs.Listed.{Named, IsTable, limit_of}
-use Rattle.bbop_isa.specs.Forms.{Bbop}
-use Rattle.bbop_isa.specs.declared.instr.Place.{Place}
+use Rattle.machine_model.proofs.Common.{◌≡◌, ℕ, List, ◌∷◌, Option, Some, None, subst, Geometry}
+use Rattle.machine_model.proofs.Common.{Trace, Ended, Stuck, Fits, Named, IsTable, limit_of, Bbop}
+use Rattle.machine_model.proofs.Common.{Place}
+use Rattle.uprog_code.specs.Machine.{HasEnded}
 use Rattle.machine_model.specs.Routines.{Routine, Routines}
 use Rattle.machine_model.specs.Refusals.{refusal, walks_badly, bbop_refusal}
 use Rattle.machine_model.specs.Steps.{binding}

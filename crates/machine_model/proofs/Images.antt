@@ -1,22 +1,12 @@
 -- An accepted script makes of an accepted image another one.
-use Rattle.std.proofs.Common.{◌≡◌, ℕ, ◌<◌, ◌*◌, true, not, List, [], ◌∷◌, length}
-use Rattle.std.proofs.Common.{sym, ◌∙◌, ap}
-use Rattle.std.specs.Prelude.{All}
-use Rattle.std.specs.List.{AllByRecursion}
-use Rattle.std.specs.Str.{bytes_eq}
-use Rattle.std.proofs.lemmas.Bool.{lt-ltb}
-use Rattle.std.proofs.lemmas.List.{length-map, length-replicate}
-use Rattle.std.proofs.lemmas.List.Elements.{All-push, All-filter}
+use Rattle.machine_model.proofs.Common.{◌≡◌, ℕ, ◌<◌, ◌*◌, true, not, List, [], ◌∷◌, length, sym}
+use Rattle.machine_model.proofs.Common.{◌∙◌, ap, All, AllByRecursion, bytes_eq, lt-ltb, length-map}
+use Rattle.machine_model.proofs.Common.{length-replicate, All-push, All-filter, Geometry, Column}
+use Rattle.machine_model.proofs.Common.{blank, Banks, blank_banks, column_count, Named, IsImage}
+use Rattle.machine_model.proofs.Common.{Instruction, Init, Bbop, Load, Fill, Print, Free, Order}
+use Rattle.machine_model.proofs.Common.{IsRight}
 use Rattle.text_lex.specs.Spelled.{fits_name}
-use Rattle.dram_model.specs.declared.geometry.Geometry.{Geometry}
-use Rattle.dram_model.specs.Column.{Column, blank}
-use Rattle.dram_model.specs.Chip.{Banks, blank_banks}
-use Rattle.dram_model.specs.Elements.{column_count}
-use Rattle.object_alloc.specs.Listed.{Named}
-use Rattle.object_alloc.specs.Spelling.{IsImage, Rows}
-use Rattle.bbop_isa.specs.Forms.{Instruction}
-use Rattle.bbop_isa.specs.Forms.{Init, Bbop, Load, Fill, Print, Free, Order}
-use Rattle.bbop_isa.specs.Laws.{IsRight}
+use Rattle.object_alloc.specs.Spelling.{Rows}
 use Rattle.machine_model.specs.Routines.{Routines}
 use Rattle.machine_model.specs.Refusals.{refusal}
 use Rattle.machine_model.specs.Steps.{new_object, tabled, table_after}

@@ -1,30 +1,20 @@
 -- A wave beside its bbops one after another.
-use Rattle.std.proofs.Common.{◌≡◌, ℕ, zero, suc, ◌+◌, ◌*◌, ◌<◌, ◌≤◌, true, false, not, cond}
-use Rattle.std.proofs.Common.{ltb, List, [], ◌∷◌, ◌++◌, map, Option, Some, None}
-use Rattle.std.proofs.Common.{refl, sym, ◌∙◌, ap, subst, arith, inl, inr, eq-eqb, append-nil}
-use Rattle.std.proofs.Common.{take, drop}
-use Rattle.std.specs.Prelude.{◌⊎◌, filter, flat_map, is_none}
-use Rattle.std.specs.Str.{bytes_eq}
-use Rattle.std.specs.List.{range_with_len, AllByRecursion}
-use Rattle.std.proofs.lemmas.Bool.{ne_eqb, cases_lt, lt-ltb}
-use Rattle.std.proofs.lemmas.Bool.Decides.{nat_tests}
-use Rattle.std.proofs.lemmas.List.{map-append}
-use Rattle.std.proofs.lemmas.List.Elements.{All-push, All-filter, recursion_from_All}
-use Rattle.dram_model.specs.declared.geometry.Geometry.{Geometry}
-use Rattle.dram_model.specs.declared.address.Command.{Command}
-use Rattle.dram_model.specs.Chip.{Banks, Event, after}
-use Rattle.dram_model.specs.Chip.Event.{Row}
-use Rattle.dram_model.specs.Elements.{column_count}
-use Rattle.dram_model.specs.Events.{events_of, row_events}
-use Rattle.dram_model.proofs.EventLaws.{on_bank_all, projection}
-use Rattle.object_alloc.specs.Listed.{Named}
-use Rattle.bbop_isa.specs.Forms.{Instruction}
-use Rattle.bbop_isa.specs.Forms.{Init, Bbop, Load, Fill, Print, Free, Order}
+use Rattle.machine_model.proofs.Common.{◌≡◌, ℕ, zero, suc, ◌+◌, ◌*◌, ◌<◌, ◌≤◌, true, false, not}
+use Rattle.machine_model.proofs.Common.{cond, ltb, List, [], ◌∷◌, ◌++◌, map, Option, Some, None}
+use Rattle.machine_model.proofs.Common.{refl, sym, ◌∙◌, ap, subst, arith, inl, inr, eq-eqb}
+use Rattle.machine_model.proofs.Common.{append-nil, take, drop, filter, flat_map, is_none, bytes_eq}
+use Rattle.machine_model.proofs.Common.{range_with_len, AllByRecursion, ne_eqb, cases_lt, lt-ltb}
+use Rattle.machine_model.proofs.Common.{nat_tests, map-append, All-push, All-filter}
+use Rattle.machine_model.proofs.Common.{recursion_from_All, Geometry, Command, Banks, Event, after}
+use Rattle.machine_model.proofs.Common.{Row, column_count, events_of, row_events, on_bank_all}
+use Rattle.machine_model.proofs.Common.{projection, Named, Instruction, Init, Bbop, Load, Fill}
+use Rattle.machine_model.proofs.Common.{Print, Free, Order, WaveJob, events_of_picks}
+use Rattle.std.specs.Prelude.{◌⊎◌}
+use Rattle.wave_model.specs.Schedule.{Queues, queues, IsWhole, picked, without_next}
+use Rattle.wave_model.proofs.Waves.{own_queue, no_events, live_at, live_none}
 use Rattle.machine_model.specs.declared.Why.{Why}
 use Rattle.machine_model.specs.Routines.{Routines}
 use Rattle.machine_model.specs.Refusals.{refusal, object_named, rows_of}
-use Rattle.wave_model.specs.Schedule.{WaveJob, Queues, queues, events_of_picks, IsWhole}
-use Rattle.wave_model.specs.Schedule.{picked, without_next}
 use Rattle.machine_model.specs.Steps.{job_of, job_events, own_events, if_done, table_after, tabled}
 use Rattle.machine_model.specs.Steps.{new_object}
 use Rattle.machine_model.specs.Script.{is_bbop, table_at_end, events_in_order}
@@ -35,7 +25,6 @@ use Rattle.machine_model.proofs.Tables.{made, object_holds}
 use Rattle.machine_model.proofs.Bbops.{part_count}
 use Rattle.machine_model.proofs.Events.{in_order_steps}
 use Rattle.machine_model.proofs.Alike.{Alike, events_of-append}
-use Rattle.wave_model.proofs.Waves.{own_queue, no_events, live_at, live_none}
 
 -- a bank sees its own commands
 row_own : (bank : ℕ) (cs : List Command)

@@ -1,32 +1,19 @@
 -- A row that a done instruction does not touch stays.
-use Rattle.std.proofs.Common.{◌≡◌, ℕ, ◌+◌, ◌<◌, ◌≤◌, Bool, true, false, ◌&&◌, ◌||◌, cond, ltb, List}
-use Rattle.std.proofs.Common.{[], ◌∷◌, map, Option, Some, None, refl, ◌∙◌, ap, arith, inl, inr}
-use Rattle.std.proofs.lemmas.Bool.Decides.{nat_tests}
-use Rattle.dram_model.specs.declared.geometry.Geometry.{Geometry}
-use Rattle.dram_model.specs.declared.address.Cell.TheVariants.{D}
-use Rattle.dram_model.specs.Column.{Column, run}
-use Rattle.dram_model.specs.Chip.{Banks, row_in}
-use Rattle.bit_rows.specs.declared.TheConstants.{WIDTH_MAX}
-use Rattle.uprog_code.specs.Bound.{bound}
-use Rattle.uprog_code.specs.Shape.{need, results}
-use Rattle.std.specs.List.{list_any}
-use Rattle.uprog_code.specs.Fits.{IsTouched}
-use Rattle.uprog_code.specs.Implements.{Keeps}
-use Rattle.uprog_code.specs.Machine.{issues_of}
-use Rattle.object_alloc.specs.Free.{has_row}
-use Rattle.object_alloc.specs.Listed.{IsTable}
-use Rattle.bbop_isa.specs.Forms.{Bbop}
-use Rattle.bbop_isa.specs.declared.instr.Place.{Place}
+use Rattle.machine_model.proofs.Common.{or_parts, ◌≡◌, ℕ, ◌+◌, ◌<◌, ◌≤◌, Bool, true, false, ◌&&◌}
+use Rattle.machine_model.proofs.Common.{cond, ltb, List, [], ◌∷◌, map, Option, Some, None, refl}
+use Rattle.machine_model.proofs.Common.{◌∙◌, ap, arith, inl, inr, nat_tests, Geometry, D, Column}
+use Rattle.machine_model.proofs.Common.{run, Banks, row_in, WIDTH_MAX, bound, need, results}
+use Rattle.machine_model.proofs.Common.{list_any, IsTouched, Keeps, issues_of, has_row, IsTable}
+use Rattle.machine_model.proofs.Common.{Bbop, Place, limit_of}
+use Rattle.std.proofs.Common.{◌||◌}
 use Rattle.machine_model.specs.declared.Why.{Why}
 use Rattle.machine_model.specs.Columns.{segments}
 use Rattle.machine_model.specs.Routines.{Routine, Routines}
-use Rattle.object_alloc.specs.Listed.{limit_of}
 use Rattle.machine_model.specs.Refusals.{rows_of, bbop_refusal, dsts_in}
 use Rattle.machine_model.specs.Steps.{Held, table_of, base_for, binding, through, job_of, if_done}
 use Rattle.machine_model.specs.Steps.{is_touched, banks_after, is_among, is_beside, dsts_of}
 use Rattle.machine_model.proofs.Facts.{IsGood, good}
 use Rattle.machine_model.proofs.Bbops.{binding_fits, no_result}
-use Rattle.machine_model.proofs.Merged.{or_false}
 use Rattle.machine_model.proofs.Steps.{job_is}
 
 -- what is issued for each operation leaves all rows that are not its own
@@ -56,10 +43,10 @@ pub not_touched : (g : Geometry) (state : List Held) (o : Routine) (places : Lis
     || is_beside g (table_of state) (Some o) n row) ≡ false
     → IsTouched g.rows o.shape n (binding g (table_of state) o.shape places n) row → ⊥
 not_touched g state o places count n row good h is =
-    let parts = or_false (list_any (λ p. has_row (rows_of (table_of state) p) row)
+    let parts = or_parts (list_any (λ p. has_row (rows_of (table_of state) p) row)
     (dsts_in o.shape places)) (is_beside g (table_of state) (Some o) n row) h in
     let base = base_for g (table_of state) (need o.shape n) in
-    let beside = or_false (is_among base (need o.shape n) row) (is_among (limit_of g) 32 row)
+    let beside = or_parts (is_among base (need o.shape n) row) (is_among (limit_of g) 32 row)
     parts.1 in
     elim is [
       | inl result ↦ no_result state count n row (results o.shape) (dsts_in o.shape places)

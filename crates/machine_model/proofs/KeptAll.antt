@@ -1,45 +1,28 @@
 -- Rows that no done instruction of a script touches stay.
-use Rattle.std.proofs.Common.{◌≡◌, ℕ, zero, suc, ◌+◌, ◌<◌, ◌≤◌, Bool, true, false, ◌&&◌, ltb, List}
-use Rattle.std.proofs.Common.{[], ◌∷◌, map, Some, refl, sym, ◌∙◌, ap, subst, arith, inl, inr, cond}
-use Rattle.std.specs.Option.{option_map}
-use Rattle.std.specs.Str.{bytes_eq}
-use Rattle.std.specs.List.{AllByRecursion}
-use Rattle.std.proofs.lemmas.Bool.{cases_lt, ne_eqb}
-use Rattle.std.proofs.lemmas.Bool.Decides.{nat_tests}
-use Rattle.dram_model.specs.declared.geometry.Geometry.{Geometry}
-use Rattle.dram_model.specs.declared.address.Cell.TheVariants.{D}
-use Rattle.bit_rows.specs.Bits.{bit_at}
-use Rattle.dram_model.specs.Column.{Column, run}
-use Rattle.dram_model.specs.Chip.{Banks, row_in, with_row, after}
-use Rattle.dram_model.proofs.EventLaws.{on_bank_all}
-use Rattle.object_alloc.specs.declared.table.Object.{Object}
-use Rattle.object_alloc.specs.Free.{has_row}
-use Rattle.object_alloc.specs.Listed.{Named, IsTable}
-use Rattle.bbop_isa.specs.Forms.{Instruction}
-use Rattle.bbop_isa.specs.Forms.{Init, Bbop, Load, Fill, Print, Free, Order}
-use Rattle.dram_model.specs.Elements.{column_count}
+use Rattle.machine_model.proofs.Common.{or_parts, ◌≡◌, ℕ, zero, suc, ◌+◌, ◌<◌, ◌≤◌, Bool, true}
+use Rattle.machine_model.proofs.Common.{false, ◌&&◌, ltb, List, [], ◌∷◌, map, Some, refl, sym, ◌∙◌}
+use Rattle.machine_model.proofs.Common.{ap, subst, arith, inl, inr, cond, option_map, bytes_eq}
+use Rattle.machine_model.proofs.Common.{AllByRecursion, cases_lt, ne_eqb, nat_tests, Geometry, D}
+use Rattle.machine_model.proofs.Common.{bit_at, Column, run, Banks, row_in, with_row, after}
+use Rattle.machine_model.proofs.Common.{on_bank_all, Object, has_row, Named, IsTable, Instruction}
+use Rattle.machine_model.proofs.Common.{Init, Bbop, Load, Fill, Print, Free, Order, column_count}
+use Rattle.machine_model.proofs.Common.{padded_to, limit_of, issues_of, Keeps, WIDTH_MAX, writes}
+use Rattle.machine_model.proofs.Common.{each_inside, each_after, all_writes, all_own, part}
+use Rattle.uprog_code.specs.Programs.{IsEntry, IsProgram}
+use Rattle.uprog_code.proofs.Kept.{legal_keeps}
 use Rattle.machine_model.specs.Columns.{object_size, segments}
-use Rattle.dram_model.specs.Elements.{padded_to}
 use Rattle.machine_model.specs.Routines.{Program, Routine, Routines, routine_of}
 use Rattle.machine_model.specs.Routines.{entry_named, routines_in}
-use Rattle.object_alloc.specs.Listed.{limit_of}
 use Rattle.machine_model.specs.Refusals.{rows_of, refusal}
 use Rattle.machine_model.specs.Steps.{Held, table_of, new_object, through, is_touched, banks_after}
 use Rattle.machine_model.specs.Steps.{table_after, fill_events, load_events}
 use Rattle.machine_model.specs.Agrees.{DoesAll, IsPlain}
 use Rattle.machine_model.specs.Laws.{UntouchedStays}
-use Rattle.uprog_code.specs.Machine.{issues_of}
-use Rattle.uprog_code.specs.Implements.{Keeps}
-use Rattle.uprog_code.specs.Programs.{IsEntry, IsProgram}
-use Rattle.uprog_code.proofs.Kept.{legal_keeps}
-use Rattle.bit_rows.specs.declared.TheConstants.{WIDTH_MAX}
 use Rattle.machine_model.specs.Script.{is_touched_by, banks_at_end}
 use Rattle.machine_model.proofs.Kept.{KeepsAll, stay_case, done_kept, bbop_rows_kept}
-use Rattle.machine_model.proofs.Merged.{or_false}
 use Rattle.machine_model.proofs.Steps.{idle}
 use Rattle.machine_model.proofs.Fills.{fill_commands, fill_keeps}
 use Rattle.machine_model.proofs.Makes.{filled}
-use Rattle.dram_model.proofs.RowWrites.{writes, each_inside, each_after, all_writes, all_own, part}
 use Rattle.machine_model.proofs.Places.{still, still_table}
 use Rattle.machine_model.proofs.Tables.{listed_after}
 
@@ -140,7 +123,7 @@ pub script_kept : (g : Geometry) (operations : Routines) (script : List Instruct
 script_kept g operations [] keeps plain table t banks bank row out = refl
 script_kept g operations (instr ∷ script) keeps plain table t banks bank row out =
     let table' = table_after g operations table instr in
-    let both = or_false (is_touched g operations table instr bank row)
+    let both = or_parts (is_touched g operations table instr bank row)
     (is_touched_by g operations table' script bank row) out in
     script_kept g operations script keeps plain.1 table'
     (listed_after g operations table instr plain.0 t) (banks_after g operations table banks instr)

@@ -1,43 +1,27 @@
 -- The step of a load.
-use Rattle.std.proofs.Common.{◌≡◌, ℕ, zero, suc, ◌+◌, ◌-◌, ◌*◌, ◌^◌, ◌<◌, ◌≤◌, true, false, not}
-use Rattle.std.proofs.Common.{eqb, leb, List, [], ◌∷◌, length, get_or, map, drop, None}
-use Rattle.std.proofs.Common.{refl, sym, ◌∙◌, ap, subst, arith, inl, inr}
-use Rattle.std.specs.List.{range_with_len, flat_map, AllByRecursion}
-use Rattle.std.specs.Prelude.{replicate}
-use Rattle.std.proofs.lemmas.Bool.{cases_lt}
-use Rattle.std.proofs.lemmas.Bool.Decides.{nat_tests}
-use Rattle.std.proofs.lemmas.List.{map-append, take_all}
+use Rattle.machine_model.proofs.Common.{◌≡◌, ℕ, zero, suc, ◌+◌, ◌-◌, ◌*◌, ◌^◌, ◌<◌, ◌≤◌, true}
+use Rattle.machine_model.proofs.Common.{false, not, eqb, leb, List, [], ◌∷◌, length, get_or, map}
+use Rattle.machine_model.proofs.Common.{drop, None, refl, sym, ◌∙◌, ap, subst, arith, inl, inr}
+use Rattle.machine_model.proofs.Common.{range_with_len, AllByRecursion, replicate, cases_lt}
+use Rattle.machine_model.proofs.Common.{nat_tests, map-append, pow_pos, Geometry, Column, Banks}
+use Rattle.machine_model.proofs.Common.{after, on_bank_all, number, each_inside, each_after, part}
+use Rattle.machine_model.proofs.Common.{all_writes, all_own, Object, has_row, AreApart, Load, Part}
+use Rattle.machine_model.proofs.Common.{Place, column_count, padded_to, limit_of, bytes_eq, Bool}
+use Rattle.machine_model.proofs.Common.{cond, ◌++◌, Option, Some, length-map, D, below, segments_of}
+use Rattle.machine_model.proofs.Common.{writes, taken, taken_before, taken_past, writes_first}
+use Rattle.machine_model.proofs.Common.{writes_nothing}
+use Rattle.std.specs.List.{flat_map}
+use Rattle.std.proofs.lemmas.List.{take_all}
 use Rattle.std.proofs.lemmas.Grind.{div_ceil_times}
-use Rattle.std.proofs.lemmas.Nat.{pow_pos}
-use Rattle.dram_model.specs.declared.geometry.Geometry.{Geometry}
-use Rattle.dram_model.specs.Column.{Column}
-use Rattle.dram_model.specs.Chip.{Banks, after}
-use Rattle.dram_model.proofs.EventLaws.{on_bank_all}
-use Rattle.dram_model.specs.Elements.{number}
-use Rattle.dram_model.proofs.RowWrites.{writes_numbers, each_inside, each_after, part, whole}
-use Rattle.dram_model.proofs.RowWrites.{all_writes, all_own, part_length, padded_length}
+use Rattle.dram_model.proofs.RowWrites.{writes_numbers, whole, part_length, padded_length}
 use Rattle.dram_model.proofs.RowWrites.{all_append, all_take, all_drop, all_zero}
-use Rattle.object_alloc.specs.declared.table.Object.{Object}
-use Rattle.object_alloc.specs.Free.{has_row, AreApart}
-use Rattle.bbop_isa.specs.Forms.{Load}
-use Rattle.bbop_isa.specs.declared.instr.Part.{Part}
-use Rattle.bbop_isa.specs.declared.instr.Place.{Place}
 use Rattle.machine_model.specs.declared.Why.{Why}
 use Rattle.machine_model.specs.declared.Why.TheVariants as why
-use Rattle.dram_model.specs.Elements.{column_count}
 use Rattle.machine_model.specs.Columns.{object_size, segments}
-use Rattle.dram_model.specs.Elements.{padded_to}
 use Rattle.machine_model.specs.Routines.{Routines}
-use Rattle.object_alloc.specs.Listed.{limit_of}
 use Rattle.machine_model.specs.Refusals.{rows_of, goes_past, is_absent, refusal, when, at_place}
 use Rattle.machine_model.specs.Places.{cut, is_past, put, put_all}
 use Rattle.machine_model.proofs.Sliced.{replaces, has_from}
-use Rattle.std.specs.Str.{bytes_eq}
-use Rattle.std.proofs.Common.{Bool, cond, ◌++◌, Option, Some}
-use Rattle.std.proofs.lemmas.List.{length-map}
-use Rattle.dram_model.specs.declared.address.Cell.TheVariants.{D}
-use Rattle.dram_model.specs.Elements.{below, segments_of}
-use Rattle.dram_model.proofs.RowWrites.{writes, taken, taken_before, taken_past, writes_first, writes_nothing}
 use Rattle.machine_model.specs.Columns.{columns}
 use Rattle.machine_model.specs.Steps.{table_of, load_events, with_results}
 use Rattle.machine_model.specs.Agrees.{Agrees}

@@ -1,14 +1,9 @@
 -- What a load leaves in the columns.
-use Rattle.std.proofs.Common.{◌≡◌, ℕ, ◌+◌, ◌<◌, ◌≤◌, List, [], ◌∷◌, length, map, refl, ap, arith, inl}
-use Rattle.std.proofs.Common.{inr}
-use Rattle.std.proofs.lemmas.Bool.{cases_lt}
-use Rattle.dram_model.specs.Column.{Column}
-use Rattle.dram_model.proofs.EventLaws.{on_bank_all}
-use Rattle.dram_model.specs.Elements.{number}
-use Rattle.dram_model.proofs.RowWrites.{writes, taken, taken_before, taken_past, writes_first}
-use Rattle.dram_model.proofs.RowWrites.{writes_nothing}
+use Rattle.machine_model.proofs.Common.{◌≡◌, ℕ, ◌+◌, ◌<◌, ◌≤◌, List, [], ◌∷◌, length, map, refl, ap}
+use Rattle.machine_model.proofs.Common.{arith, inl, inr, cases_lt, Column, on_bank_all, number}
+use Rattle.machine_model.proofs.Common.{writes, taken, taken_before, taken_past, writes_first}
+use Rattle.machine_model.proofs.Common.{writes_nothing, Object}
 pub use Rattle.dram_model.proofs.RowWrites.{OnOwn, each_inside}
-use Rattle.object_alloc.specs.declared.table.Object.{Object}
 use Rattle.machine_model.proofs.Below.{number_same}
 
 -- other rows stay

@@ -1,37 +1,26 @@
 -- The steps of a fill and of a new object.
-use Rattle.std.proofs.Common.{refl, ◌≡◌, ℕ, ◌+◌, ◌*◌, ◌/◌, ◌%◌, ◌^◌, ◌<◌, ◌≤◌, false, leb, List, []}
-use Rattle.std.proofs.Common.{◌∷◌, ◌++◌, length, get_or, sym, ◌∙◌, ap, subst, arith, inl, inr}
-use Rattle.std.specs.Prelude.{All, replicate}
+use Rattle.machine_model.proofs.Common.{false_from_ne_true, or_parts, refl, ◌≡◌, ℕ, ◌+◌, ◌*◌, ◌/◌}
+use Rattle.machine_model.proofs.Common.{◌%◌, ◌^◌, ◌<◌, ◌≤◌, false, leb, List, [], ◌∷◌, ◌++◌, length}
+use Rattle.machine_model.proofs.Common.{get_or, sym, ◌∙◌, ap, subst, arith, inl, inr, All}
+use Rattle.machine_model.proofs.Common.{replicate, cases_lt, nat_tests, pow_pos, map-append}
+use Rattle.machine_model.proofs.Common.{All-push, Geometry, Banks, after, Object, has_row, AreApart}
+use Rattle.machine_model.proofs.Common.{Named, IsTable, objects_of, IsTable-add, Init, Fill, Place}
+use Rattle.machine_model.proofs.Common.{column_count, limit_of}
 use Rattle.std.specs.Int.{div_ceil}
-use Rattle.std.proofs.lemmas.Bool.{cases_lt}
-use Rattle.std.proofs.lemmas.Bool.Decides.{nat_tests}
-use Rattle.std.proofs.lemmas.Nat.{pow_pos}
-use Rattle.std.proofs.lemmas.List.{map-append}
-use Rattle.std.proofs.lemmas.List.Elements.{All-push}
 use Rattle.std.proofs.Math.Nat.{mul-le-mul_left, div-le_of_le-mul}
-use Rattle.dram_model.specs.declared.geometry.Geometry.{Geometry}
-use Rattle.dram_model.specs.Chip.{Banks, after}
-use Rattle.object_alloc.specs.declared.table.Object.{Object}
-use Rattle.object_alloc.specs.Free.{has_row, AreApart}
-use Rattle.object_alloc.specs.Listed.{Named, IsTable, objects_of}
-use Rattle.object_alloc.proofs.Tables.{IsTable-add}
-use Rattle.bbop_isa.specs.Forms.{Init, Fill}
-use Rattle.bbop_isa.specs.declared.instr.Place.{Place}
 use Rattle.machine_model.specs.declared.Why.TheVariants as why
-use Rattle.dram_model.specs.Elements.{column_count}
 use Rattle.machine_model.specs.Columns.{object_size, segments, columns}
 use Rattle.machine_model.specs.Routines.{Routines}
-use Rattle.object_alloc.specs.Listed.{limit_of}
 use Rattle.machine_model.specs.Refusals.{rows_of, goes_past, is_absent, refusal, when}
 use Rattle.machine_model.specs.Steps.{Held, table_of, new_object, through, fill_events}
 use Rattle.machine_model.specs.Steps.{with_results, new_numbers}
-use Rattle.machine_model.proofs.Merged.{meet, or_false}
+use Rattle.machine_model.proofs.Merged.{meet}
 use Rattle.machine_model.specs.Agrees.{Agrees}
 use Rattle.machine_model.proofs.Facts.{first_none, when_none, not_false, operand_is}
 use Rattle.machine_model.proofs.Places.{no_one, entry_of}
 use Rattle.machine_model.proofs.Below.{base_free}
 use Rattle.machine_model.proofs.Tables.{made}
-use Rattle.machine_model.proofs.Bbops.{not_free, if_not_true, placed_at}
+use Rattle.machine_model.proofs.Bbops.{not_free, placed_at}
 use Rattle.machine_model.proofs.Fills.{fill_job, fill_is_job, fill_columns, fill_others, fill_keeps}
 use Rattle.machine_model.proofs.Steps.{with_results_agrees, operand_within, through_length, done_or_not, idle}
 use Rattle.machine_model.proofs.Steps.{any_default, StepAgrees}
@@ -61,7 +50,7 @@ fill_agrees g operations meaning place v banks state a =
     (λ i l. let h = get_or state i no_one in
     meet g banks job (rows_of table) result (place ∷ []) h.name h.object o.count
     (placed_at (limit_of g) state i place a.table l is.1, tt) (refl, tt) refl
-    (λ s row has none. fill_keeps o h.object v row s (or_false (has_row o row) false none).0) (
+    (λ s row has none. fill_keeps o h.object v row s (or_parts (has_row o row) false none).0) (
       fill_columns g banks o v (grind (arith, nat_tests)) (λ b m.
           a.shaped b (omega (arith, inside, m))),
       tt,
@@ -97,7 +86,7 @@ init_agrees g operations meaning name count n some words banks state a =
     let few : segments g o ≤ g.banks = few_banks count (column_count g) g.banks (omega arith)
     m.fits in
     let apart : (k : ℕ) → k < length state → AreApart (get_or state k no_one).object o =
-    λ k l row r. if_not_true _ (λ t.
+    λ k l row r. false_from_ne_true _ (λ t.
     let rows : (o.base ≤ row) × (row < o.base + n) = grind (arith, nat_tests) in
     let none = not_free (limit_of g) state n o.base row k base rows.0 rows.1 l in
     cc) in

@@ -1,22 +1,13 @@
 -- An object's columns after a job, by the parts that its destinations are.
-use Rattle.std.proofs.Common.{◌≡◌, ℕ, ◌+◌, Bool, true, false, cond, List, []}
-use Rattle.std.proofs.Common.{◌∷◌, map, Option, Some, None, refl, sym, ◌∙◌, ap, subst}
-use Rattle.std.specs.Prelude.{◌||◌}
-use Rattle.std.specs.List.{list_any, AllByRecursion}
-use Rattle.std.specs.Str.{bytes_eq}
-use Rattle.dram_model.specs.declared.geometry.Geometry.{Geometry}
+use Rattle.machine_model.proofs.Common.{or_parts, ◌≡◌, ℕ, ◌+◌, Bool, true, false, cond, List, []}
+use Rattle.machine_model.proofs.Common.{◌∷◌, map, Option, Some, None, refl, sym, ◌∙◌, ap, subst}
+use Rattle.machine_model.proofs.Common.{◌||◌, list_any, AllByRecursion, bytes_eq, Geometry, D}
+use Rattle.machine_model.proofs.Common.{Column, run, Banks, number, below, segments_of, Object}
+use Rattle.machine_model.proofs.Common.{has_row, AreApart, WaveJob, Part, Place}
 use Rattle.dram_model.specs.declared.address.Cell.{Cell}
-use Rattle.dram_model.specs.declared.address.Cell.TheVariants.{T, Dcc, C, D}
-use Rattle.dram_model.specs.Column.{Column, run}
-use Rattle.dram_model.specs.Chip.{Banks}
-use Rattle.dram_model.specs.Elements.{number, below, segments_of}
-use Rattle.object_alloc.specs.declared.table.Object.{Object}
-use Rattle.object_alloc.specs.Free.{has_row, AreApart}
-use Rattle.wave_model.specs.Schedule.{WaveJob}
+use Rattle.dram_model.specs.declared.address.Cell.TheVariants.{T, Dcc, C}
 use Rattle.machine_model.specs.Columns.{columns, segments}
 use Rattle.machine_model.specs.Steps.{through, new_numbers}
-use Rattle.bbop_isa.specs.declared.instr.Part.{Part}
-use Rattle.bbop_isa.specs.declared.instr.Place.{Place}
 use Rattle.machine_model.specs.Places.{cut, is_past, put, put_all}
 use Rattle.machine_model.proofs.Placed.{IsPlaced, AreResults}
 use Rattle.machine_model.proofs.Sliced.{replaces, number_same, has_from}
@@ -159,10 +150,6 @@ gave_of g banks job rows result count k (d ∷ dsts) e all are = (
   gave_of g banks job rows result count (k + 1) dsts e all.1 are.1,
 )
 
-pub or_false : (a b : Bool) → (a || b) ≡ false → (a ≡ false) × (b ≡ false)
-or_false true b h = cc
-or_false false b h = (refl, h)
-
 -- no destination is of this name
 not_named : (rows : Place → Object) (name : List ℕ) (o : Object) (count : ℕ) (result : ℕ → List ℕ)
     (k : ℕ) (dsts : List Place) (numbers : List ℕ)
@@ -170,7 +157,7 @@ not_named : (rows : Place → Object) (name : List ℕ) (o : Object) (count : �
     → new_numbers result k dsts name numbers ≡ numbers
 not_named rows name o count result k [] numbers h = refl
 not_named rows name o count result k (d ∷ dsts) numbers h =
-    let p = or_false (bytes_eq name d.name) (list_any (λ d. bytes_eq name d.name) dsts) h in
+    let p = or_parts (bytes_eq name d.name) (list_any (λ d. bytes_eq name d.name) dsts) h in
     ap (λ b. new_numbers result (k + 1) dsts name
     (cond b (put_all d.part numbers (result k)) numbers)) p.0
     ∙ not_named rows name o count result (k + 1) dsts numbers p.1
@@ -181,7 +168,7 @@ not_in : (rows : Place → Object) (name : List ℕ) (o : Object) (count row : �
     → list_any (λ d. has_row (rows d) row) dsts ≡ false
 not_in rows name o count row [] all h has = refl
 not_in rows name o count row (d ∷ dsts) all h has =
-    let p = or_false (bytes_eq name d.name) (list_any (λ d. bytes_eq name d.name) dsts) h in
+    let p = or_parts (bytes_eq name d.name) (list_any (λ d. bytes_eq name d.name) dsts) h in
     rw ((all.0).other p.0 row has) (not_in rows name o count row dsts all.1 p.1 has)
 
 count_case : (o : Object) (count : ℕ) (a b : Bool) → (a ≡ true → o.count ≡ count)

@@ -1,31 +1,21 @@
 -- An image that is opened, and what is said of its objects.
-use Rattle.std.proofs.Common.{◌≡◌, ℕ, ◌*◌, ◌<◌, ◌≤◌, Bool, true, false, cond, List, [], ◌∷◌, length}
-use Rattle.std.proofs.Common.{get_or, map, take, Option, Some, None, refl, sym, ◌∙◌, ap, subst}
-use Rattle.std.proofs.Common.{arith}
-use Rattle.std.proofs.lemmas.Bool.{lt-ltb}
-use Rattle.std.proofs.lemmas.List.{length-map, length-replicate}
-use Rattle.std.proofs.lemmas.List.Elements.{All-map}
-use Rattle.dram_model.specs.declared.geometry.Geometry.{Geometry}
-use Rattle.dram_model.specs.Column.{Column, blank}
-use Rattle.dram_model.specs.Chip.{Banks, Event, on_bank, happens, after, with_row, blank_banks}
-use Rattle.dram_model.specs.Chip.Event.{Row, Write}
-use Rattle.uprog_code.specs.declared.walker.Counts.{Counts}
-use Rattle.object_alloc.specs.Listed.{Named, IsTable}
-use Rattle.bbop_isa.specs.declared.instr.Place.{Place}
-use Rattle.bbop_isa.specs.Forms.{Instruction}
-use Rattle.bbop_isa.specs.Forms.{Init, Bbop, Load, Fill, Print, Free, Order}
+use Rattle.machine_model.proofs.Common.{◌≡◌, ℕ, ◌*◌, ◌<◌, ◌≤◌, Bool, true, false, cond, List, []}
+use Rattle.machine_model.proofs.Common.{◌∷◌, length, get_or, map, take, Option, Some, None, refl}
+use Rattle.machine_model.proofs.Common.{sym, ◌∙◌, ap, subst, arith, lt-ltb, length-map}
+use Rattle.machine_model.proofs.Common.{length-replicate, All-map, Geometry, Column, blank, Banks}
+use Rattle.machine_model.proofs.Common.{Event, after, with_row, blank_banks, Row, Write, Counts}
+use Rattle.machine_model.proofs.Common.{Named, IsTable, Place, Instruction, Init, Bbop, Load, Fill}
+use Rattle.machine_model.proofs.Common.{Print, Free, Order, column_count, limit_of, AllByRecursion}
+use Rattle.machine_model.proofs.Common.{IsImage}
+use Rattle.dram_model.specs.Chip.{on_bank, happens}
 use Rattle.machine_model.specs.declared.Why.{Why}
-use Rattle.dram_model.specs.Elements.{column_count}
 use Rattle.machine_model.specs.Columns.{segments, columns}
 use Rattle.machine_model.specs.Routines.{Routines}
-use Rattle.object_alloc.specs.Listed.{limit_of}
 use Rattle.machine_model.specs.Refusals.{refusal, rows_of, goes_past, is_absent}
 use Rattle.machine_model.specs.Steps.{Held, table_of, numbers_at, reply_by, reply_to}
 use Rattle.machine_model.specs.Steps.{words_after, banks_after}
 use Rattle.machine_model.specs.Agrees.{Agrees}
-use Rattle.std.specs.List.{AllByRecursion}
 use Rattle.machine_model.specs.Report.{Said, place_text, said_of, said_in_words, said_in_rows}
-use Rattle.object_alloc.specs.Spelling.{IsImage}
 use Rattle.machine_model.specs.Opened.{Image, opened, objects_held, row_writes}
 use Rattle.machine_model.proofs.Bbops.{operand_columns}
 use Rattle.machine_model.proofs.Facts.{not_false, operand_is}

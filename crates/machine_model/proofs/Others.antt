@@ -1,23 +1,13 @@
 -- A bbop leaves the numbers of the operands that have no row of a destination.
-use Rattle.std.proofs.Common.{◌≡◌, ℕ, ◌<◌, ◌≤◌, true, false, List, [], ◌∷◌, Option}
-use Rattle.std.proofs.Common.{Some, None, refl, sym, subst}
-use Rattle.std.specs.List.{AllByRecursion}
-use Rattle.dram_model.specs.declared.geometry.Geometry.{Geometry}
-use Rattle.dram_model.specs.Chip.{Banks}
-use Rattle.bit_rows.specs.declared.TheConstants.{WIDTH_MAX}
-use Rattle.op_text.specs.declared.tree.Kind.{Kind}
-use Rattle.object_alloc.specs.declared.table.Object.{Object}
-use Rattle.object_alloc.specs.Listed.{Named, IsTable, limit_of, has_name}
-use Rattle.bbop_isa.specs.Forms.{Bbop}
-use Rattle.bbop_isa.specs.declared.instr.Place.{Place}
+use Rattle.machine_model.proofs.Common.{or_parts, ◌≡◌, ℕ, ◌<◌, ◌≤◌, true, false, List, [], ◌∷◌}
+use Rattle.machine_model.proofs.Common.{Option, Some, None, refl, sym, subst, AllByRecursion}
+use Rattle.machine_model.proofs.Common.{Geometry, Banks, WIDTH_MAX, Kind, Object, Named, IsTable}
+use Rattle.machine_model.proofs.Common.{limit_of, has_name, Bbop, Place, results, AreApart}
 use Rattle.machine_model.specs.declared.Why.{Why}
 use Rattle.machine_model.specs.Columns.{columns}
 use Rattle.machine_model.specs.Routines.{Routine, Routines, routines_in}
 use Rattle.machine_model.specs.Refusals.{bbop_refusal, rows_of, goes_past, meets_one, dsts_in}
 use Rattle.machine_model.specs.Refusals.{srcs_in}
-use Rattle.uprog_code.specs.Shape.{results}
-use Rattle.object_alloc.specs.Free.{AreApart}
-use Rattle.machine_model.proofs.Merged.{or_false}
 use Rattle.machine_model.specs.Steps.{Held, table_of, banks_after, if_done, job_of, through}
 use Rattle.machine_model.specs.Steps.{dsts_of, srcs_of}
 use Rattle.machine_model.proofs.Kept.{KeepsAll}
@@ -97,7 +87,7 @@ module _ (limit : ℕ) (table : List Named) (count n : ℕ) (t : IsTable limit t
   source_apart kind p op [] (d ∷ dsts) x h = elim x [ ]
   source_apart kind p op (k ∷ kinds) [] x h = elim x [ ]
   source_apart kind p op (k ∷ kinds) (d ∷ dsts) (more _ _ _ _ other rest) h =
-      let both = or_false (in_common p d) (meets_one dsts p) h in (
+      let both = or_parts (in_common p d) (meets_one dsts p) h in (
         table_apart limit table p d t op.present op.inside other.present other.inside both.0,
         source_apart kind p op kinds dsts rest both.1,
       )

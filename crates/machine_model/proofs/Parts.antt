@@ -1,19 +1,13 @@
 -- A script that goes on where its first part ends.
-use Rattle.std.proofs.Common.{◌≡◌, ℕ, ◌+◌, Bool, true, false, List, [], ◌∷◌, ◌++◌, map, refl, sym}
-use Rattle.std.proofs.Common.{◌∙◌, ap, arith, append_assoc}
-use Rattle.std.specs.Prelude.{◌||◌, flat_map, is_none}
-use Rattle.std.specs.List.{AllByRecursion}
+use Rattle.machine_model.proofs.Common.{◌≡◌, ℕ, ◌+◌, Bool, true, false, List, [], ◌∷◌, ◌++◌, map}
+use Rattle.machine_model.proofs.Common.{refl, sym, ◌∙◌, ap, arith, append_assoc, ◌||◌, flat_map}
+use Rattle.machine_model.proofs.Common.{is_none, AllByRecursion, zero, suc, cond, length, take}
+use Rattle.machine_model.proofs.Common.{drop, Geometry, Banks, Named, Place, Instruction, Init}
+use Rattle.machine_model.proofs.Common.{Bbop, Load, Fill, Print, Free, Order}
 use Rattle.machine_model.specs.Refusals.{refusal}
 use Rattle.machine_model.specs.Script.{rows_loaded, rows_printed, rows_if_done}
 use Rattle.machine_model.specs.Report.{line, lines}
 use Rattle.machine_model.specs.Laws.{LinesGoOn}
-use Rattle.std.proofs.Common.{zero, suc, cond, length, take, drop}
-use Rattle.dram_model.specs.declared.geometry.Geometry.{Geometry}
-use Rattle.dram_model.specs.Chip.{Banks}
-use Rattle.object_alloc.specs.Listed.{Named}
-use Rattle.bbop_isa.specs.declared.instr.Place.{Place}
-use Rattle.bbop_isa.specs.Forms.{Instruction}
-use Rattle.bbop_isa.specs.Forms.{Init, Bbop, Load, Fill, Print, Free, Order}
 use Rattle.machine_model.specs.declared.Reply.{Reply}
 use Rattle.machine_model.specs.declared.Reply.TheVariants.{Done, Refused}
 use Rattle.machine_model.specs.Routines.{Routines}

@@ -1,19 +1,14 @@
 -- A script in pieces beside its instructions one after another.
-use Rattle.std.proofs.Common.{◌≡◌, ◌<◌, Bool, true, false, cond, eqb, List, [], ◌∷◌, ◌++◌}
-use Rattle.std.proofs.Common.{length, refl, sym, ◌∙◌, ap, subst}
-use Rattle.std.proofs.Common.{append_assoc, append-nil, length-append, ◌+◌, ◌≤◌, arith}
-use Rattle.std.proofs.lemmas.Bool.Decides.{nat_tests}
-use Rattle.std.specs.Prelude.{flat_map}
-use Rattle.std.specs.List.{AllByRecursion}
-use Rattle.dram_model.specs.declared.geometry.Geometry.{Geometry}
-use Rattle.dram_model.specs.Chip.{Banks, Event, after, all_counted}
-use Rattle.dram_model.specs.declared.dram.Counters.{Counters}
-use Rattle.object_alloc.specs.Listed.{Named}
-use Rattle.bbop_isa.specs.Forms.{Instruction}
-use Rattle.bbop_isa.specs.Forms.{Init, Bbop, Load, Fill, Print, Free, Order}
+use Rattle.machine_model.proofs.Common.{◌≡◌, ◌<◌, Bool, true, false, cond, eqb, List, [], ◌∷◌, ◌++◌}
+use Rattle.machine_model.proofs.Common.{length, refl, sym, ◌∙◌, ap, subst, append_assoc, append-nil}
+use Rattle.machine_model.proofs.Common.{length-append, ◌+◌, ◌≤◌, arith, nat_tests, flat_map}
+use Rattle.machine_model.proofs.Common.{AllByRecursion, Geometry, Banks, Event, after, all_counted}
+use Rattle.machine_model.proofs.Common.{Counters, Named, Instruction, Init, Bbop, Load, Fill, Print}
+use Rattle.machine_model.proofs.Common.{Free, Order, events_of_picks}
+use Rattle.wave_model.specs.Schedule.{Turn, in_turn, whole_picks}
+use Rattle.wave_model.proofs.Waves.{turns_whole}
 use Rattle.machine_model.specs.Routines.{Routines}
 use Rattle.machine_model.specs.Refusals.{refusal}
-use Rattle.wave_model.specs.Schedule.{Turn, in_turn, whole_picks, events_of_picks}
 use Rattle.machine_model.specs.Steps.{job_of, job_events, own_events, if_done, table_after}
 use Rattle.machine_model.specs.Script.{is_bbop, table_at_end, banks_at_end, events_in_order}
 use Rattle.machine_model.specs.Script.{replies, sum_of}
@@ -26,7 +21,6 @@ use Rattle.machine_model.specs.Laws.{OneBankInOrder, PiecesAreScript, WaveIsCoun
 use Rattle.machine_model.specs.Laws.{PieceIsCounted, PieceIsSteps}
 use Rattle.machine_model.proofs.Parts.{waves_are_answered}
 use Rattle.machine_model.proofs.Events.{in_order_steps, in_order_counted}
-use Rattle.wave_model.proofs.Waves.{turns_whole}
 use Rattle.machine_model.proofs.Alike.{Alike, Alike-append, alike_after, alike_counted}
 use Rattle.machine_model.proofs.InOrder.{wave_in_order, jobs_fit, picks_alike, picks_same}
 use Rattle.machine_model.proofs.InOrder.{fits_after}

@@ -1,12 +1,7 @@
 -- Operands and the objects that they are in.
+use Rattle.machine_model.proofs.Common.{bytes_eq, Geometry, Banks, Object, AreApart, Place}
 use Rattle.std.specs.Prelude.{◌≡◌, ℕ, ◌+◌, true, false, List, [], ◌∷◌}
-use Rattle.std.specs.Str.{bytes_eq}
-use Rattle.dram_model.specs.declared.geometry.Geometry.{Geometry}
-use Rattle.dram_model.specs.Chip.{Banks}
-use Rattle.object_alloc.specs.declared.table.Object.{Object}
-use Rattle.object_alloc.specs.Free.{AreApart}
 use Rattle.machine_model.specs.Columns.{columns}
-use Rattle.bbop_isa.specs.declared.instr.Place.{Place}
 use Rattle.machine_model.specs.Places.{cut, is_past}
 
 -- an operand whose name is this object's is a part of it, and any other is apart from it

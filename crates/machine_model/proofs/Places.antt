@@ -1,16 +1,12 @@
 -- Where an object of a name stands in a state.
-use Rattle.std.proofs.Common.{◌≡◌, ◌≢◌, ℕ, zero, suc, ◌<◌, ◌≤◌, Bool, true, false, cond, List, []}
-use Rattle.std.proofs.Common.{◌∷◌, length, get_or, map, Option, Some, refl, sym, ◌∙◌, ap, subst}
-use Rattle.std.proofs.Common.{arith}
-use Rattle.std.specs.List.{find, list_any, AllPairs}
-use Rattle.std.specs.Prelude.{◌||◌}
-use Rattle.std.specs.Option.{option_map, unwrap_or}
-use Rattle.std.specs.Str.{bytes_eq}
+use Rattle.machine_model.proofs.Common.{false_from_ne_true, ◌≡◌, ◌≢◌, ℕ, zero, suc, ◌<◌, ◌≤◌, Bool}
+use Rattle.machine_model.proofs.Common.{true, false, cond, List, [], ◌∷◌, length, get_or, map}
+use Rattle.machine_model.proofs.Common.{Option, Some, refl, sym, ◌∙◌, ap, subst, arith, find}
+use Rattle.machine_model.proofs.Common.{list_any, ◌||◌, option_map, unwrap_or, bytes_eq, length-map}
+use Rattle.machine_model.proofs.Common.{AreApart, end_of, Named, IsTable, has_name}
+use Rattle.std.specs.List.{AllPairs}
 use Rattle.std.proofs.lemmas.Slice.Eq.{bytes_eq-Decides}
-use Rattle.std.proofs.lemmas.List.{length-map}
 use Rattle.std.proofs.Math.ListN.{get_or-map}
-use Rattle.object_alloc.specs.Free.{AreApart, end_of}
-use Rattle.object_alloc.specs.Listed.{Named, IsTable, has_name}
 use Rattle.machine_model.specs.Refusals.{object_named, nothing}
 use Rattle.machine_model.specs.Steps.{Held, table_of, numbers_named}
 
@@ -22,13 +18,9 @@ same_bytes xs ys h = (bytes_eq-Decides xs ys).0 h
 pub bytes_same : (xs ys : List ℕ) → xs ≡ ys → bytes_eq xs ys ≡ true
 bytes_same xs ys e = (bytes_eq-Decides xs ys).1 e
 
-ne_case : (b : Bool) → (b ≡ true → ⊥) → b ≡ false
-ne_case true f = absurd (f refl)
-ne_case false f = refl
-
 -- names that differ are told apart
 pub bytes_differ : (xs ys : List ℕ) → xs ≢ ys → bytes_eq xs ys ≡ false
-bytes_differ xs ys n = ne_case _ (λ t. n (same_bytes xs ys t))
+bytes_differ xs ys n = false_from_ne_true _ (λ t. n (same_bytes xs ys t))
 
 any_case : {X : Type 0} (p : X → Bool) (x : X) (xs : List X) (d : X) (b : Bool) → p x ≡ b
     → (list_any p xs ≡ true → (j : ℕ) × (j < length xs) × (p (get_or xs j d) ≡ true))

@@ -1,19 +1,12 @@
 -- A whole script: the banks hold what the word machine holds, and a wave is its bbops one after
 -- another.
-use Rattle.std.proofs.Common.{◌≡◌, ℕ, List, [], ◌∷◌, map, Option, Some, None, refl, subst}
-use Rattle.std.specs.Prelude.{slice_index}
-use Rattle.std.specs.List.{AllByRecursion}
-use Rattle.std.proofs.lemmas.List.{map-append}
-use Rattle.dram_model.specs.declared.geometry.Geometry.{Geometry}
-use Rattle.dram_model.specs.Chip.{Banks}
-use Rattle.object_alloc.specs.Listed.{Named}
-use Rattle.bbop_isa.specs.Forms.{Instruction}
-use Rattle.bbop_isa.specs.Forms.{Init, Bbop, Load, Fill, Print, Free, Order}
+use Rattle.machine_model.proofs.Common.{◌≡◌, ℕ, List, [], ◌∷◌, map, Option, Some, None, refl, subst}
+use Rattle.machine_model.proofs.Common.{slice_index, AllByRecursion, map-append, Geometry, Banks}
+use Rattle.machine_model.proofs.Common.{Named, Instruction, Init, Bbop, Load, Fill, Print, Free}
+use Rattle.machine_model.proofs.Common.{Order, replicate, padded_to}
 use Rattle.machine_model.specs.declared.Why.{Why}
 use Rattle.machine_model.specs.Routines.{Routines}
 use Rattle.machine_model.specs.Refusals.{refusal, rows_of}
-use Rattle.std.specs.Prelude.{replicate}
-use Rattle.dram_model.specs.Elements.{padded_to}
 use Rattle.machine_model.specs.Columns.{object_size}
 use Rattle.machine_model.specs.Steps.{Held, table_of, computed, numbers_at, srcs_of}
 use Rattle.machine_model.specs.Steps.{dsts_of, words_after, banks_after, table_after, tabled}

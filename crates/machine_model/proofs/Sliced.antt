@@ -1,18 +1,12 @@
 -- A number and its parts.
-use Rattle.std.proofs.Common.{List, [], ◌∷◌, ◌≡◌, ℕ, zero, suc, ◌+◌, ◌-◌, ◌*◌, ◌/◌, ◌%◌, ◌^◌, ◌<◌, ◌≤◌, Bool, true}
-use Rattle.std.proofs.Common.{false, eqb, map, Some, refl, sym, ◌∙◌, ap, arith}
-use Rattle.std.specs.List.{range_with_len}
-use Rattle.std.proofs.lemmas.Bool.Decides.{nat_tests}
-use Rattle.std.proofs.lemmas.Nat.{pow_pos, pow-add}
-use Rattle.std.proofs.Math.Nat.{pow-suc, add-mul-mod_self_left, add-mul-div_left, mod-eq_of_lt}
-use Rattle.std.proofs.Math.Nat.{div-eq_of_lt, div-div-eq-div-mul, mod-add-div}
-use Rattle.bit_rows.specs.Bits.{value, bit_at, bit_number}
-use Rattle.dram_model.specs.declared.address.Cell.TheVariants.{D}
-use Rattle.dram_model.specs.Column.{Column}
-use Rattle.dram_model.specs.Elements.{number}
-use Rattle.object_alloc.specs.declared.table.Object.{Object}
-use Rattle.object_alloc.specs.Free.{has_row}
-use Rattle.bbop_isa.specs.declared.instr.Part.{Part}
+use Rattle.machine_model.proofs.Common.{List, [], ◌∷◌, ◌≡◌, ℕ, zero, suc, ◌+◌, ◌-◌, ◌*◌, ◌/◌, ◌%◌}
+use Rattle.machine_model.proofs.Common.{◌^◌, ◌<◌, ◌≤◌, Bool, true, false, eqb, map, Some, refl, sym}
+use Rattle.machine_model.proofs.Common.{◌∙◌, ap, arith, range_with_len, nat_tests, pow_pos}
+use Rattle.machine_model.proofs.Common.{mod-eq_of_lt, value, bit_at, bit_number, D, Column, number}
+use Rattle.machine_model.proofs.Common.{Object, has_row, Part}
+use Rattle.std.proofs.lemmas.Nat.{pow-add}
+use Rattle.std.proofs.Math.Nat.{pow-suc, add-mul-mod_self_left, add-mul-div_left, div-eq_of_lt}
+use Rattle.std.proofs.Math.Nat.{div-div-eq-div-mul, mod-add-div}
 use Rattle.machine_model.specs.Places.{cut, is_past, seen, put}
 use Rattle.machine_model.specs.Laws.{PartsAreBits}
 

@@ -1,31 +1,18 @@
 -- The step of the rows gives the word machine's step.
-use Rattle.std.proofs.Common.{◌≡◌, ℕ, zero, suc, ◌<◌, ◌≤◌, Bool, true, false, not, cond, ltb}
-use Rattle.std.proofs.Common.{List, [], ◌∷◌, length, get_or, map, Option, Some, None, refl, sym}
-use Rattle.std.proofs.Common.{◌∙◌, ap, subst, arith}
-use Rattle.std.specs.Prelude.{filter, slice_index}
-use Rattle.uprog_code.specs.Machine.{issues_of}
-use Rattle.std.specs.Str.{bytes_eq}
-use Rattle.std.proofs.lemmas.List.{length-map}
-use Rattle.std.proofs.lemmas.Bool.Decides.{nat_tests}
-use mathlib.Core.Path.{fun_ext}
-use Rattle.dram_model.specs.declared.address.Command.{Command}
-use Rattle.std.proofs.lemmas.List.Elements.{All-map, All-filter}
-use Rattle.dram_model.specs.declared.geometry.Geometry.{Geometry}
-use Rattle.dram_model.specs.Column.{Column, run}
-use Rattle.dram_model.specs.Chip.{Banks}
-use Rattle.object_alloc.specs.declared.table.Object.{Object}
-use Rattle.object_alloc.specs.Listed.{Named, IsTable, without, has_name}
-use Rattle.object_alloc.proofs.Tables.{IsTable-without}
-use Rattle.bbop_isa.specs.Forms.{Instruction, Bbop, Print, Free, Order}
-use Rattle.bbop_isa.specs.declared.instr.Place.{Place}
+use Rattle.machine_model.proofs.Common.{◌≡◌, ℕ, zero, suc, ◌<◌, ◌≤◌, Bool, true, false, not, cond}
+use Rattle.machine_model.proofs.Common.{ltb, List, [], ◌∷◌, length, get_or, map, Option, Some, None}
+use Rattle.machine_model.proofs.Common.{refl, sym, ◌∙◌, ap, subst, arith, filter, slice_index}
+use Rattle.machine_model.proofs.Common.{issues_of, bytes_eq, length-map, nat_tests, fun_ext}
+use Rattle.machine_model.proofs.Common.{Command, All-map, All-filter, Geometry, Column, run, Banks}
+use Rattle.machine_model.proofs.Common.{Object, Named, IsTable, has_name, IsTable-without}
+use Rattle.machine_model.proofs.Common.{Instruction, Bbop, Print, Free, Order, Place, column_count}
+use Rattle.machine_model.proofs.Common.{segments_of, limit_of, WaveJob}
+use Rattle.object_alloc.specs.Listed.{without}
 use Rattle.bbop_isa.specs.declared.instr.Order.{Order as Orders}
 use Rattle.machine_model.specs.declared.Why.{Why}
-use Rattle.dram_model.specs.Elements.{column_count, segments_of}
 use Rattle.machine_model.specs.Columns.{object_size, segments, columns}
 use Rattle.machine_model.specs.Routines.{Performs, Routine, Routines}
-use Rattle.object_alloc.specs.Listed.{limit_of}
 use Rattle.machine_model.specs.Refusals.{object_named, rows_of, refusal, bbop_refusal, dsts_in, srcs_in}
-use Rattle.wave_model.specs.Schedule.{WaveJob}
 use Rattle.machine_model.specs.Steps.{Held, table_of, numbers_at, with_results}
 use Rattle.machine_model.specs.Steps.{new_numbers, dsts_of, srcs_of, computed, through, job_of}
 use Rattle.machine_model.specs.Steps.{worded, rowed, if_done, banks_after, words_after}

@@ -1,21 +1,13 @@
 -- The table stays a table of objects that the geometry can hold.
-use Rattle.std.proofs.Common.{◌≡◌, ℕ, ◌*◌, ◌<◌, ◌≤◌, Bool, true, false, not, ltb, leb, List, [], ◌∷◌}
-use Rattle.std.proofs.Common.{length, Option, Some, None, refl, arith}
-use Rattle.std.specs.Prelude.{All, is_none, cond}
-use Rattle.std.specs.List.{find, AllByRecursion}
-use Rattle.std.specs.Option.{option_map, unwrap_or}
-use Rattle.std.specs.Str.{bytes_eq}
-use Rattle.std.proofs.lemmas.Bool.Decides.{nat_tests}
-use Rattle.std.proofs.lemmas.List.Elements.{All-push, All-filter}
-use Rattle.dram_model.specs.declared.geometry.Geometry.{Geometry}
-use Rattle.dram_model.specs.Elements.{column_count}
-use Rattle.object_alloc.specs.declared.table.Object.{Object}
-use Rattle.object_alloc.specs.Free.{free}
-use Rattle.object_alloc.specs.Listed.{Named, IsTable, objects_of, has_name, limit_of}
+use Rattle.machine_model.proofs.Common.{◌≡◌, ℕ, ◌*◌, ◌<◌, ◌≤◌, Bool, true, false, not, ltb, leb}
+use Rattle.machine_model.proofs.Common.{List, [], ◌∷◌, length, Option, Some, None, refl, arith, All}
+use Rattle.machine_model.proofs.Common.{is_none, find, AllByRecursion, option_map, unwrap_or}
+use Rattle.machine_model.proofs.Common.{bytes_eq, nat_tests, All-push, All-filter, Geometry}
+use Rattle.machine_model.proofs.Common.{column_count, Object, free, Named, IsTable, objects_of}
+use Rattle.machine_model.proofs.Common.{has_name, limit_of, IsTable-add, IsTable-without}
+use Rattle.machine_model.proofs.Common.{Instruction, Init, Bbop, Load, Fill, Print, Free, Order}
+use Rattle.std.specs.Prelude.{cond}
 use Rattle.object_alloc.specs.Spelling.{IsObject}
-use Rattle.object_alloc.proofs.Tables.{IsTable-add, IsTable-without}
-use Rattle.bbop_isa.specs.Forms.{Instruction}
-use Rattle.bbop_isa.specs.Forms.{Init, Bbop, Load, Fill, Print, Free, Order}
 use Rattle.machine_model.specs.declared.Why.{Why}
 use Rattle.machine_model.specs.declared.Why.TheVariants as why
 use Rattle.machine_model.specs.Routines.{Routines}

@@ -1,17 +1,12 @@
 -- A program that does a text offers the same operations, and they do what they mean.
-use Rattle.std.proofs.Common.{◌≡◌, ℕ, ◌<◌, ◌≤◌, Bool, true, false, cond, List, [], ◌∷◌, Option}
-use Rattle.std.proofs.Common.{Some, None, refl, sym, ap, subst}
-use Rattle.std.specs.Option.{option_map}
-use Rattle.std.specs.Str.{bytes_eq}
-use mathlib.Core.Path.{fun_ext}
-use Rattle.bit_rows.specs.declared.TheConstants.{WIDTH_MAX}
-use Rattle.uprog_code.specs.Shape.{Shape, Microprogram}
-use Rattle.uprog_code.specs.declared.code.Uop.{Uop}
-use Rattle.uprog_code.specs.Machine.{trace, issues_of}
+use Rattle.machine_model.proofs.Common.{◌≡◌, ℕ, ◌<◌, ◌≤◌, Bool, true, false, cond, List, [], ◌∷◌}
+use Rattle.machine_model.proofs.Common.{Option, Some, None, refl, sym, ap, subst, option_map}
+use Rattle.machine_model.proofs.Common.{bytes_eq, fun_ext, WIDTH_MAX, Shape, Uop, trace, issues_of}
+use Rattle.uprog_code.specs.Shape.{Microprogram}
 use Rattle.uprog_code.specs.Implements.{Implements}
+use Rattle.uprog_code.specs.Texts.{TextOp, EntryDoes, ImplementsAll}
 use Rattle.machine_model.specs.Routines.{Program, Routine, entry_named, text_op_named, routines_in}
 use Rattle.machine_model.specs.Routines.{routines_of, trace_of, meaning_of, meaning_in, Performs}
-use Rattle.uprog_code.specs.Texts.{TextOp, EntryDoes, ImplementsAll}
 use Rattle.machine_model.specs.Agrees.{DoesAll}
 
 -- a name is in neither, or in both, at an entry that does the op

@@ -1,9 +1,6 @@
 -- Every step, and so every script.
-use Rattle.std.proofs.Common.{ℕ, ◌<◌, List, [], ◌∷◌}
-use Rattle.std.specs.List.{AllByRecursion}
-use Rattle.dram_model.specs.declared.geometry.Geometry.{Geometry}
-use Rattle.bbop_isa.specs.Forms.{Instruction}
-use Rattle.bbop_isa.specs.Forms.{Init, Bbop, Load, Fill, Print, Free, Order}
+use Rattle.machine_model.proofs.Common.{ℕ, ◌<◌, List, [], ◌∷◌, AllByRecursion, Geometry}
+use Rattle.machine_model.proofs.Common.{Instruction, Init, Bbop, Load, Fill, Print, Free, Order}
 use Rattle.machine_model.specs.Routines.{Routines, routines_of, meaning_in}
 use Rattle.machine_model.specs.Agrees.{DoesAll, IsPlain}
 use Rattle.machine_model.specs.Laws.{RowsGiveWords, TextGivesWords}

@@ -1,14 +1,10 @@
 -- The values of all nodes, computed one after another, and graphs whose outputs agree
-use Rattle.std.proofs.Common.{◌≡◌, ◌≢◌, ℕ, ◌+◌, ◌-◌, ◌<◌, Bool, true, false, List, length}
-use Rattle.std.proofs.Common.{refl, sym, ◌∙◌, ap, subst, arith, inl, inr}
-use Rattle.std.proofs.lemmas.Bool.{cases_eq}
-use Rattle.bit_rows.specs.Bits.{flip_if}
-use Rattle.mig_graph.specs.declared.Lit.{Lit}
-use Rattle.mig_graph.specs.Literals.{lit_value, node_value, IsLower}
-use Rattle.mig_graph.specs.Graph.{Graph, size_of, values, node_at, IsGraph}
-use Rattle.mig_graph.specs.Outputs.{lit_at, AreNamed}
-use Rattle.mig_graph.specs.Reduced.{node_numbered}
-use Rattle.mig_graph.proofs.Laws.{value-zero, value-input, value-node, node-below}
+use Rattle.mig_rewrite.proofs.Common.{◌≡◌, ◌≢◌, ℕ, ◌+◌, ◌-◌, ◌<◌, Bool, true, false, List, length}
+use Rattle.mig_rewrite.proofs.Common.{refl, sym, ◌∙◌, ap, subst, arith, inl, inr, cases_eq, flip_if}
+use Rattle.mig_rewrite.proofs.Common.{Lit, lit_value, node_value, IsLower, Graph, size_of, values}
+use Rattle.mig_rewrite.proofs.Common.{node_at, IsGraph, lit_at, AreNamed, node_numbered, value-zero}
+use Rattle.mig_rewrite.proofs.Common.{value-node}
+use Rattle.mig_graph.proofs.Laws.{value-input, node-below}
 use Rattle.mig_rewrite.specs.Plan.{is_marked}
 use Rattle.mig_rewrite.specs.Values.{FitsFrom, HasValues, Agree}
 

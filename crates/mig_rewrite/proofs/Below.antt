@@ -1,5 +1,6 @@
 -- How many nodes that a merge takes stand below one
-use Rattle.std.specs.Prelude.{ℕ, ◌+◌, if◌then◌else◌, Option, Some, None, nat_lt}
+use Rattle.mig_rewrite.proofs.Common.{if◌then◌else◌, Option, Some, None, nat_lt}
+use Rattle.std.specs.Prelude.{ℕ, ◌+◌}
 use Rattle.mig_rewrite.specs.declared.merges.Merge.{Merge}
 
 -- 1 if the number is below k, else 0

@@ -1,8 +1,5 @@
 -- Graphs that keep a graph's outputs
-use Rattle.std.proofs.Common.{◌<◌, length, List, ◌∙◌, arith}
-use Rattle.mig_graph.specs.declared.Lit.{Lit}
-use Rattle.mig_graph.specs.Graph.{Graph}
-use Rattle.mig_graph.specs.Outputs.{KeepsOutputs}
+use Rattle.mig_rewrite.proofs.Common.{◌<◌, length, List, ◌∙◌, arith, Lit, Graph, KeepsOutputs}
 
 -- what keeps the outputs twice keeps them
 pub keeps-twice : (g h k : Graph) (outs made more : List Lit) → KeepsOutputs g outs h made

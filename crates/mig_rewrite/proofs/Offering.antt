@@ -1,17 +1,10 @@
 -- The values of a sketch's nodes, made one after another
-use Rattle.std.proofs.Common.{◌≡◌, ℕ, zero, suc, ◌+◌, ◌/◌, ◌%◌, ◌<◌, ◌≤◌, ◌==◌, Bool, true, false}
-use Rattle.std.proofs.Common.{List, [], ◌∷◌, ◌++◌, length, length-append, refl, sym, ◌∙◌, ap, subst}
-use Rattle.std.proofs.Common.{arith, inl, inr}
-use Rattle.std.specs.Prelude.{if◌then◌else◌, nat_lt}
-use Rattle.std.proofs.lemmas.Bool.{cases_lt}
-use Rattle.std.proofs.lemmas.Bool.Decides.{nat_tests}
-use Rattle.bit_rows.specs.Bits.{majority, flip_if}
-use Rattle.mig_graph.specs.declared.Lit.{Lit}
-use Rattle.mig_graph.specs.Literals.{lit_value, complement_if}
-use Rattle.mig_graph.specs.Graph.{Graph, size_of, value, values, start}
-use Rattle.mig_graph.specs.Outputs.{lit_at, AreNamed}
-use Rattle.mig_graph.proofs.Laws.{values-below}
-use Rattle.mig_graph.proofs.OutputLaws.{each-more, value-complemented}
+use Rattle.mig_rewrite.proofs.Common.{◌≡◌, ℕ, zero, suc, ◌+◌, ◌/◌, ◌%◌, ◌<◌, ◌≤◌, ◌==◌, Bool, true}
+use Rattle.mig_rewrite.proofs.Common.{false, List, [], ◌∷◌, ◌++◌, length, length-append, refl, sym}
+use Rattle.mig_rewrite.proofs.Common.{◌∙◌, ap, subst, arith, inl, inr, if◌then◌else◌, nat_lt}
+use Rattle.mig_rewrite.proofs.Common.{cases_lt, nat_tests, majority, flip_if, Lit, lit_value}
+use Rattle.mig_rewrite.proofs.Common.{complement_if, Graph, size_of, value, values, start, lit_at}
+use Rattle.mig_rewrite.proofs.Common.{AreNamed, values-below, each-more, value-complemented}
 use Rattle.mig_rewrite.specs.declared.sketch.Sketch.{Sketch}
 use Rattle.mig_rewrite.specs.Merge.{straight}
 use Rattle.mig_rewrite.specs.Offers.{short_value, operand, sketch_values, Stands}

@@ -1,14 +1,10 @@
 -- The two inner nodes of a merge need not be made
-use Rattle.std.proofs.Common.{◌≡◌, ◌≢◌, ℕ, ◌<◌, ◌==◌, Bool, true, false, List, length, refl, arith}
-use Rattle.std.proofs.Common.{inl, inr, sym, ◌∙◌, subst, slice_set, if◌then◌else◌, eqb-true, eq-eqb}
-use Rattle.std.proofs.Common.{get_or-set_other, get_or-set_same, length-set}
-use Rattle.std.specs.Prelude.{Some}
-use Rattle.std.proofs.lemmas.Bool.{cases_eq, cases_lt}
+use Rattle.mig_rewrite.proofs.Common.{◌≡◌, ◌≢◌, ℕ, ◌<◌, ◌==◌, Bool, true, false, List, length, refl}
+use Rattle.mig_rewrite.proofs.Common.{arith, inl, inr, sym, ◌∙◌, subst, slice_set, eqb-true, eq-eqb}
+use Rattle.mig_rewrite.proofs.Common.{get_or-set_other, get_or-set_same, length-set, Some, cases_eq}
+use Rattle.mig_rewrite.proofs.Common.{cases_lt, Lit, Graph, size_of, IsGraph, lit_at, node_numbered}
+use Rattle.std.proofs.Common.{if◌then◌else◌}
 use Rattle.std.proofs.lemmas.List.{set_past}
-use Rattle.mig_graph.specs.declared.Lit.{Lit}
-use Rattle.mig_graph.specs.Graph.{Graph, size_of, IsGraph}
-use Rattle.mig_graph.specs.Outputs.{lit_at}
-use Rattle.mig_graph.specs.Reduced.{node_numbered}
 use Rattle.mig_rewrite.specs.declared.merges.Merge.{Merge}
 use Rattle.mig_rewrite.specs.declared.rebuild.Part.{Part}
 use Rattle.mig_rewrite.specs.declared.rebuild.Part.TheVariants.{Nothing, One, Two}

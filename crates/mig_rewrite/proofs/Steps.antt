@@ -1,16 +1,10 @@
 -- Making one node again
-use Rattle.std.proofs.Common.{◌≡◌, ◌≢◌, ℕ, ◌+◌, ◌<◌, ◌≤◌, ◌==◌, Bool, true, false, List, [], ◌∷◌}
-use Rattle.std.proofs.Common.{◌++◌, length, refl, arith, sym, ◌∙◌, ap, subst, eqb-true}
-use Rattle.std.specs.Prelude.{Option, Some, None}
-use Rattle.std.proofs.lemmas.Bool.Decides.{nat_tests}
-use Rattle.bit_rows.specs.Bits.{majority}
-use Rattle.mig_graph.specs.declared.Lit.{Lit}
-use Rattle.mig_graph.specs.Literals.{lit_value}
-use Rattle.mig_graph.specs.Graph.{Graph, size_of, IsGraph, values, value}
+use Rattle.mig_rewrite.proofs.Common.{◌≡◌, ◌≢◌, ℕ, ◌+◌, ◌<◌, ◌≤◌, ◌==◌, Bool, true, false, List, []}
+use Rattle.mig_rewrite.proofs.Common.{◌∷◌, ◌++◌, length, refl, arith, sym, ◌∙◌, ap, subst, eqb-true}
+use Rattle.mig_rewrite.proofs.Common.{Option, Some, None, nat_tests, majority, Lit, lit_value}
+use Rattle.mig_rewrite.proofs.Common.{Graph, size_of, IsGraph, values, value, lit_at, each-more}
+use Rattle.mig_rewrite.proofs.Common.{node_numbered}
 use Rattle.mig_graph.proofs.Laws.{any-order}
-use Rattle.mig_graph.specs.Outputs.{lit_at}
-use Rattle.mig_graph.proofs.OutputLaws.{each-more}
-use Rattle.mig_graph.specs.Reduced.{node_numbered}
 use Rattle.mig_graph.proofs.ReducedLaws.{majority-merge}
 use Rattle.mig_rewrite.specs.declared.merges.Merge.{Merge}
 use Rattle.mig_rewrite.specs.declared.rebuild.Part.{Part}

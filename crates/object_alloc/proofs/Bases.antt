@@ -1,15 +1,12 @@
 -- The least base, by its code and by its definition.
-use Rattle.std.proofs.Common.{◌≡◌, ℕ, zero, suc, ◌+◌, ◌-◌, ◌<◌, ◌≤◌, max, Bool, true, false, not}
-use Rattle.std.proofs.Common.{◌&&◌, cond, List, [], ◌∷◌, length, get_or, Option, Some, None, refl}
-use Rattle.std.proofs.Common.{sym, ◌∙◌, ap, subst, inl, inr, arith}
-use Rattle.std.specs.List.{list_all, find, range_with_len}
+use Rattle.object_alloc.proofs.Common.{◌≡◌, ℕ, zero, suc, ◌+◌, ◌-◌, ◌<◌, ◌≤◌, Bool, true, false}
+use Rattle.object_alloc.proofs.Common.{not, ◌&&◌, cond, List, [], ◌∷◌, length, get_or, Option, Some}
+use Rattle.object_alloc.proofs.Common.{None, refl, sym, ◌∙◌, ap, subst, inl, inr, arith, list_all}
+use Rattle.object_alloc.proofs.Common.{find, range_with_len, All, cases_lt, nat_tests, list_all_at}
+use Rattle.object_alloc.proofs.Common.{get_or-range_with_len, length-range_with_len, length-map}
+use Rattle.object_alloc.proofs.Common.{get_or-map}
+use Rattle.std.proofs.Common.{max}
 use Rattle.std.specs.Option.{option_map, is_none, is_some}
-use Rattle.std.specs.Prelude.{All}
-use Rattle.std.proofs.lemmas.Bool.{cases_lt}
-use Rattle.std.proofs.lemmas.Bool.Decides.{nat_tests}
-use Rattle.std.proofs.lemmas.List.Folds.{list_all_at}
-use Rattle.std.proofs.lemmas.List.FromFn.{get_or-range_with_len, length-range_with_len}
-use Rattle.std.proofs.lemmas.List.{length-map, get_or-map}
 use Rattle.object_alloc.specs.declared.table.Object.{Object}
 use Rattle.object_alloc.specs.Listed.{Named, Listing, objects_of}
 use Rattle.object_alloc.specs.Free.{has_row, is_free, are_free, free, end_of, meets}

@@ -1,18 +1,17 @@
 -- The bits of words and of their bytes.
-use Rattle.std.proofs.Common.{◌≡◌, ℕ, zero, suc, ◌+◌, ◌-◌, ◌*◌, ◌/◌, ◌%◌, ◌^◌, ◌<◌, ◌==◌, Bool}
-use Rattle.std.proofs.Common.{List, [], ◌∷◌, ◌++◌, length, set, take, drop, All, refl, sym}
-use Rattle.std.proofs.Common.{ap, ◌∙◌, arith}
-use Rattle.std.specs.List.{flat_map}
-use Rattle.std.specs.Int.{w64, from_le_bytes, to_le_bytes}
-use Rattle.std.proofs.Math.Nat.{pow-succ', mul_assoc}
-use Rattle.std.proofs.lemmas.Grind.{flat_map-append}
-use Rattle.std.proofs.lemmas.List.{append-nil, length-append, take_more_set}
+use Rattle.object_alloc.proofs.Common.{◌≡◌, ℕ, zero, suc, ◌+◌, ◌-◌, ◌*◌, ◌/◌, ◌%◌, ◌^◌, ◌<◌, ◌==◌}
+use Rattle.object_alloc.proofs.Common.{Bool, List, [], ◌∷◌, ◌++◌, length, take, drop, refl, sym, ap}
+use Rattle.object_alloc.proofs.Common.{◌∙◌, arith, flat_map, to_le_bytes, pow-succ'}
+use Rattle.object_alloc.proofs.Common.{flat_map-append, append-nil, length-append, bits}
+use Rattle.object_alloc.proofs.Common.{bits_of_words, IsBytes}
+use Rattle.std.proofs.Common.{set, All}
+use Rattle.std.specs.Int.{w64, from_le_bytes}
+use Rattle.std.proofs.Math.Nat.{mul_assoc}
+use Rattle.std.proofs.lemmas.List.{take_more_set}
 use Rattle.std.proofs.lemmas.Nat.{from_le_bytes-to_le_bytes_8}
-use Rattle.bit_rows.specs.Bits.{bits, bits_of_words}
 use Rattle.object_alloc.specs.Bytes.{bits_of_bytes, bytes_of_bits}
 use Rattle.object_alloc.proofs.Pieces.{take-add}
 use Rattle.object_alloc.proofs.Rows.{bytes-bits}
-use Rattle.file_fields.specs.Fields.{IsBytes}
 
 -- low bits, and high bits after them
 bits-join : (m n b v : ℕ) → b < 2 ^ m → bits (b + 2 ^ m * v) (m + n) ≡ bits b m ++ bits v n

@@ -1,13 +1,11 @@
 -- An image file is read exactly.
-use Rattle.std.proofs.Common.{◌≡◌, ℕ, suc, ◌+◌, ◌*◌, true, List, [], ◌∷◌, ◌++◌, length, Ok, refl}
-use Rattle.std.proofs.Common.{sym, ap, subst, ◌∙◌, arith}
-use Rattle.std.specs.Prelude.{All}
-use Rattle.std.specs.Int.{w16, w32, to_le_bytes}
-use Rattle.std.specs.List.{flat_map}
-use Rattle.std.proofs.lemmas.List.{append-nil, length-append, drop_all}
-use Rattle.std.proofs.lemmas.List.Concat.{flat_map-cons}
-use Rattle.dram_model.specs.declared.geometry.Geometry.{Geometry}
-use Rattle.text_lex.specs.Spelled.{fits_name}
+use Rattle.object_alloc.proofs.Common.{◌≡◌, ℕ, suc, ◌+◌, ◌*◌, true, List, [], ◌∷◌, ◌++◌, length, Ok}
+use Rattle.object_alloc.proofs.Common.{refl, sym, ap, subst, ◌∙◌, arith, All, w16, w32, to_le_bytes}
+use Rattle.object_alloc.proofs.Common.{flat_map, append-nil, length-append, flat_map-cons, Geometry}
+use Rattle.object_alloc.proofs.Common.{fits_name, IsBytes, name_bytes, ◌>>=◌, Holds, Holds-then}
+use Rattle.object_alloc.proofs.Common.{Holds-front, Holds-back, bind_ok, ok_is, name_size}
+use Rattle.std.proofs.lemmas.List.{drop_all}
+use Rattle.file_fields.proofs.Held.{Holds-fits}
 use Rattle.object_alloc.specs.Listed.{Named}
 use Rattle.object_alloc.specs.Spelling.{Rows, object_bytes, table_bytes, geometry_bytes}
 use Rattle.object_alloc.specs.Spelling.{opening_bytes, head_bytes, rows_bytes, rows_in, image_bytes}
@@ -18,10 +16,6 @@ use Rattle.object_alloc.specs.Exact.{ReadsExactly}
 use Rattle.object_alloc.proofs.Images.{opening_takes, opening_again, geometry_takes, geometry_again}
 use Rattle.object_alloc.proofs.Images.{IsListed, table_takes, table_again, rows_take, rows_again}
 use Rattle.object_alloc.proofs.Rows.{rows-in, rows-shaped, rows-again, length-rows_bytes}
-use Rattle.file_fields.specs.Fields.{IsBytes, name_bytes, ◌>>=◌}
-use Rattle.file_fields.proofs.Held.{Holds, Holds-then, Holds-front, Holds-back, Holds-fits, bind_ok}
-use Rattle.file_fields.proofs.Held.{ok_is}
-use Rattle.file_fields.proofs.Padded.{name_size}
 
 pub image_spelled : (bytes : List ℕ) (found : Found) → IsBytes bytes → image_in bytes ≡ Ok found
     → IsImage found.geometry found.table (rows_in found.geometry found.rows)

@@ -1,5 +1,5 @@
 -- What the reader answers.
-use Rattle.std.proofs.Common.{◌≡◌, List, ℕ, Result, Ok, Err}
+use Rattle.object_alloc.proofs.Common.{◌≡◌, List, ℕ, Result, Ok, Err, IsBytes}
 use Rattle.std.specs.Prelude.{IfOk}
 use Rattle.object_alloc.specs.declared.fault.ImageNo.{ImageNo}
 use Rattle.object_alloc.specs.declared.image.Image.{Image}
@@ -7,7 +7,6 @@ use Rattle.object_alloc.specs.Spelling.{IsImage, image_bytes, rows_in}
 use Rattle.object_alloc.specs.Reading.{Answers, image_in}
 use Rattle.object_alloc.specs.Exact.{found_in}
 use Rattle.object_alloc.proofs.Exact.{image_spelled}
-use Rattle.file_fields.specs.Fields.{IsBytes}
 
 pub is_spelled : (bytes : List ℕ) (r : Result Image ImageNo) → IsBytes bytes
     → Answers found_in r (image_in bytes)

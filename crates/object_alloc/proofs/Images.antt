@@ -1,22 +1,21 @@
 -- What is read of an image file is spelled so, and what is spelled so is read.
-use Rattle.std.proofs.Common.{◌≡◌, ◌≢◌, ℕ, zero, suc, ◌+◌, ◌*◌, ◌^◌, ◌<◌, ◌≤◌, true, false, ◌&&◌}
-use Rattle.std.proofs.Common.{eqb, leb, List, [], ◌∷◌, ◌++◌, length, drop, get_or, Result, Ok, refl}
-use Rattle.std.proofs.Common.{sym, ap, subst, ◌∙◌, append_assoc, arith, codes, mul-le-mul}
-use Rattle.std.specs.Prelude.{All}
-use Rattle.std.specs.Int.{w16, w32, to_le_bytes}
-use Rattle.std.specs.List.{flat_map}
-use Rattle.std.specs.Str.{bytes_eq}
+use Rattle.object_alloc.proofs.Common.{false_from_ne_true, ◌≡◌, ◌≢◌, ℕ, zero, suc, ◌+◌, ◌*◌, ◌^◌}
+use Rattle.object_alloc.proofs.Common.{◌<◌, ◌≤◌, true, false, ◌&&◌, leb, List, [], ◌∷◌, ◌++◌}
+use Rattle.object_alloc.proofs.Common.{length, drop, get_or, Result, Ok, refl, sym, ap, subst, ◌∙◌}
+use Rattle.object_alloc.proofs.Common.{append_assoc, arith, codes, All, w16, w32, to_le_bytes}
+use Rattle.object_alloc.proofs.Common.{flat_map, bytes_eq, nat_tests, bytes_eq-Decides, append-nil}
+use Rattle.object_alloc.proofs.Common.{length-append, length-map, get_or-map, flat_map-cons}
+use Rattle.object_alloc.proofs.Common.{Geometry, is_between, column_count, fits_name, IsBytes}
+use Rattle.object_alloc.proofs.Common.{name_bytes, ◌>>=◌, rule, Holds, Holds-then, Holds-front}
+use Rattle.object_alloc.proofs.Common.{Holds-back, bind_ok, ok_is, rule_ok, wide16, field_takes}
+use Rattle.object_alloc.proofs.Common.{field_again, between_is, name_size}
+use Rattle.std.proofs.Common.{eqb, mul-le-mul}
 use Rattle.std.proofs.lemmas.Bool.{eqb-true, eq-eqb}
-use Rattle.std.proofs.lemmas.Bool.Decides.{nat_tests}
-use Rattle.std.proofs.lemmas.Slice.Eq.{bytes_eq-Decides}
-use Rattle.std.proofs.lemmas.List.{append-nil, length-append, get_or_append_left, get_or_at}
-use Rattle.std.proofs.lemmas.List.{length-map, get_or-map}
-use Rattle.std.proofs.lemmas.List.Concat.{flat_map-cons}
+use Rattle.std.proofs.lemmas.List.{get_or_append_left, get_or_at}
 use Rattle.std.proofs.lemmas.List.Folds.{list_any_none}
-use Rattle.dram_model.specs.declared.geometry.Geometry.{Geometry}
-use Rattle.dram_model.specs.Geometry.{is_between, fits_size, is_geometry}
-use Rattle.dram_model.specs.Elements.{column_count}
-use Rattle.text_lex.specs.Spelled.{fits_name}
+use Rattle.dram_model.specs.Geometry.{fits_size, is_geometry}
+use Rattle.file_fields.proofs.Held.{bytes_takes, bytes_again}
+use Rattle.file_fields.proofs.Padded.{both, name_short}
 use Rattle.object_alloc.specs.declared.fault.ImageKind.TheVariants as kinds
 use Rattle.object_alloc.specs.declared.table.Object.{Object}
 use Rattle.object_alloc.specs.Free.{end_of, has_row, AreApart}
@@ -25,14 +24,9 @@ use Rattle.object_alloc.specs.Spelling.{object_bytes, table_bytes, geometry_byte
 use Rattle.object_alloc.specs.Spelling.{IsObject}
 use Rattle.object_alloc.specs.Reading.{bytes_at, field_at, object_at, objects_at, table_at}
 use Rattle.object_alloc.specs.Reading.{geometry_at, opening_in, rows_size, rows_at}
-use Rattle.object_alloc.proofs.Tables.{IsTable-add, if_not_true}
+use Rattle.object_alloc.proofs.Tables.{IsTable-add}
 use Rattle.object_alloc.proofs.Least.{AreFree-are}
 use Rattle.object_alloc.proofs.Records.{Follows, le_is, is-le, object_takes, object_again}
-use Rattle.file_fields.specs.Fields.{IsBytes, name_bytes, ◌>>=◌, rule}
-use Rattle.file_fields.proofs.Held.{Holds, Holds-then, Holds-front, Holds-back, bind_ok, ok_is}
-use Rattle.file_fields.proofs.Held.{rule_ok, bytes_takes, bytes_again, wide16, field_takes}
-use Rattle.file_fields.proofs.Held.{field_again}
-use Rattle.file_fields.proofs.Padded.{both, between_is, name_short, name_size}
 
 -- ---- the opening
 
@@ -276,7 +270,7 @@ table_takes g at bytes table fits e =
 
 -- the objects of a table, each after those before it
 not_same : (a b : List ℕ) → a ≢ b → bytes_eq a b ≡ false
-not_same a b h = if_not_true (bytes_eq a b) (λ t. h ((bytes_eq-Decides a b).0 t))
+not_same a b h = false_from_ne_true (bytes_eq a b) (λ t. h ((bytes_eq-Decides a b).0 t))
 
 follows_of : (g : Geometry) (earlier : List Named) (named : Named) (more : List Named)
     → IsListed g (earlier ++ named ∷ more) → Follows g earlier named
@@ -317,7 +311,7 @@ follows_of g earlier named more t =
                 (subst (λ (n : Named). AreApart n.1 (get_or all (length earlier) e).1)
                 (before k e lies) (t.listed.rows k (length earlier) e lies last)) in
                 let has : has_row named.1 row ≡ true = grind (arith, nat_tests) in
-                if_not_true (has_row (get_or (objects_of earlier) k d) row) (λ h.
+                false_from_ne_true (has_row (get_or (objects_of earlier) k d) row) (λ h.
                 let not_has : has_row named.1 row ≡ false =
                 apart row (ap (λ (o : Object). has_row o row) (sym is) ∙ h) in cc),
           ));

@@ -1,16 +1,15 @@
 -- `free` is the least base.
-use Rattle.std.proofs.Common.{◌≡◌, ℕ, zero, suc, ◌+◌, ◌<◌, ◌≤◌, Bool, true, false, not, ◌&&◌, cond}
-use Rattle.std.proofs.Common.{ltb, List, [], ◌∷◌, Option, Some, None, refl, sym, ◌∙◌, ap, inl, inr}
-use Rattle.std.proofs.Common.{arith}
-use Rattle.std.specs.List.{list_all, find, range_with_len}
-use Rattle.std.specs.Prelude.{All, MatchOption}
-use Rattle.std.proofs.lemmas.Bool.{cases_lt}
-use Rattle.std.proofs.lemmas.Bool.Decides.{nat_tests}
-use Rattle.std.proofs.lemmas.List.Folds.{list_all_at}
+use Rattle.object_alloc.proofs.Common.{false_from_ne_true, ◌≡◌, ℕ, zero, suc, ◌+◌, ◌<◌, ◌≤◌, Bool}
+use Rattle.object_alloc.proofs.Common.{true, false, not, ◌&&◌, cond, List, [], ◌∷◌, Option, Some}
+use Rattle.object_alloc.proofs.Common.{None, refl, sym, ◌∙◌, ap, inl, inr, arith, list_all, find}
+use Rattle.object_alloc.proofs.Common.{range_with_len, All, cases_lt, nat_tests, list_all_at}
+use Rattle.std.proofs.lemmas.Bool.{and_parts}
+use Rattle.std.proofs.Common.{ltb}
+use Rattle.std.specs.Prelude.{MatchOption}
 use Rattle.object_alloc.specs.declared.table.Object.{Object}
 use Rattle.object_alloc.specs.Free.{has_row, is_free, are_free, free, AreFree, IsLeastFree}
 use Rattle.object_alloc.proofs.Bases.{all_range}
-use Rattle.object_alloc.proofs.Tables.{in_range, if_not_true}
+use Rattle.object_alloc.proofs.Tables.{in_range}
 
 pub all_tests : (p : Object → Bool) (xs : List Object) → All (λ o. p o ≡ false) xs
     → list_all (λ o. not (p o)) xs ≡ true
@@ -20,19 +19,15 @@ all_tests p (x ∷ xs) h = rw (h 0 x (omega arith))
 
 tests_all : (p : Object → Bool) (xs : List Object) → list_all (λ o. not (p o)) xs ≡ true
     → All (λ o. p o ≡ false) xs
-tests_all p xs h k d l = if_not_true _ (λ t. let f : list_all (λ o. not (p o)) xs
+tests_all p xs h k d l = false_from_ne_true _ (λ t. let f : list_all (λ o. not (p o)) xs
     ≡ false = list_all_at (λ o. not (p o)) xs k d l (rw t refl) in cc)
-
-both : (a b : Bool) → (a && b) ≡ true → (a ≡ true) × (b ≡ true)
-both true b h = (refl, h)
-both false b h = cc
 
 -- the test of k rows says that they are free
 pub are-AreFree : (limit : ℕ) (objects : List Object) (k base : ℕ)
     → are_free limit objects k base ≡ true → AreFree limit objects k base
 are-AreFree limit objects k base h row l m =
     let one = in_range (is_free limit objects) base k row h l m in
-    let parts = both (ltb row limit) (list_all (λ o. not (has_row o row)) objects) one in
+    let parts = and_parts (ltb row limit) (list_all (λ o. not (has_row o row)) objects) one in
     (grind (arith, nat_tests), tests_all (λ o. has_row o row) objects parts.1)
 
 pub AreFree-are : (limit : ℕ) (objects : List Object) (k base : ℕ) → AreFree limit objects k base

@@ -1,3 +1,4 @@
+pub mod Common
 mod Bases
 pub mod Tables
 mod Least

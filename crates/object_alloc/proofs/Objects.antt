@@ -1,11 +1,9 @@
 -- The objects of a table, one after the other.
-use Rattle.std.proofs.Common.{◌≡◌, ℕ, suc, ◌+◌, ◌-◌, ◌<◌, ◌≤◌, List, [], ◌∷◌, ◌++◌, Result, Ok, Err}
-use Rattle.std.proofs.Common.{refl, sym, ◌∙◌, arith}
-use Rattle.dram_model.specs.declared.geometry.Geometry.{Geometry}
+use Rattle.object_alloc.proofs.Common.{◌≡◌, ℕ, suc, ◌+◌, ◌-◌, ◌<◌, ◌≤◌, List, [], ◌∷◌, ◌++◌, Result}
+use Rattle.object_alloc.proofs.Common.{Ok, Err, refl, sym, ◌∙◌, arith, Geometry, IsBytes}
 use Rattle.object_alloc.specs.Listed.{Named}
 use Rattle.object_alloc.specs.Reading.{object_at, objects_at, ImageFault}
 use Rattle.object_alloc.proofs.Records.{Follows, object_takes}
-use Rattle.file_fields.specs.Fields.{IsBytes}
 
 -- an object that was read may be added
 pub object_fits : (g : Geometry) (earlier : List Named) (at : ℕ) (bytes : List ℕ) (named : Named)

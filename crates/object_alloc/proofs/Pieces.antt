@@ -1,8 +1,8 @@
 -- Lists of pieces of one length.
-use Rattle.std.proofs.Common.{◌≡◌, ℕ, zero, suc, ◌+◌, ◌*◌, ◌<◌, ◌≤◌, List, [], ◌∷◌, ◌++◌, length}
-use Rattle.std.proofs.Common.{take, drop, refl, sym, ap, ◌∙◌, arith}
-use Rattle.std.specs.List.{flat_map, range_with_len}
-use Rattle.std.proofs.lemmas.List.{take_at, drop_at, drop-drop, take_all, length-append}
+use Rattle.object_alloc.proofs.Common.{◌≡◌, ℕ, zero, suc, ◌+◌, ◌*◌, ◌<◌, ◌≤◌, List, [], ◌∷◌, ◌++◌}
+use Rattle.object_alloc.proofs.Common.{length, take, drop, refl, sym, ap, ◌∙◌, arith, flat_map}
+use Rattle.object_alloc.proofs.Common.{range_with_len, take_at, drop_at, drop-drop, take_all}
+use Rattle.object_alloc.proofs.Common.{length-append}
 
 pub take-add : {X : Type 0} (m n : ℕ) (xs : List X)
     → take (m + n) xs ≡ take m xs ++ take n (drop m xs)

@@ -1,23 +1,20 @@
 -- The record of an object is its spelling, and its spelling is read.
-use Rattle.std.proofs.Common.{◌≡◌, ℕ, ◌+◌, ◌*◌, ◌^◌, ◌<◌, ◌≤◌, true, false, leb, List, [], ◌∷◌}
-use Rattle.std.proofs.Common.{◌++◌, length, Ok, refl, subst, arith}
-use Rattle.std.specs.Int.{w8, w16, w32, to_le_bytes}
-use Rattle.std.proofs.lemmas.Bool.Decides.{nat_tests}
+use Rattle.object_alloc.proofs.Common.{◌≡◌, ℕ, ◌+◌, ◌*◌, ◌^◌, ◌<◌, ◌≤◌, true, false, leb, List, []}
+use Rattle.object_alloc.proofs.Common.{◌∷◌, ◌++◌, length, Ok, refl, subst, arith, w16, w32}
+use Rattle.object_alloc.proofs.Common.{to_le_bytes, nat_tests, Geometry, is_between, column_count}
+use Rattle.object_alloc.proofs.Common.{fits_name, IsBytes, name_bytes, ◌>>=◌, rule, Holds}
+use Rattle.object_alloc.proofs.Common.{Holds-then, Holds-front, Holds-back, bind_ok, ok_is, rule_ok}
+use Rattle.object_alloc.proofs.Common.{wide16, field_takes, field_again, between_is, name_size}
+use Rattle.std.specs.Int.{w8}
 use Rattle.bit_rows.specs.declared.TheConstants.{WIDTH_MAX}
-use Rattle.dram_model.specs.declared.geometry.Geometry.{Geometry}
-use Rattle.dram_model.specs.Geometry.{is_between}
-use Rattle.dram_model.specs.Elements.{column_count}
-use Rattle.text_lex.specs.Spelled.{fits_name}
+use Rattle.file_fields.proofs.Held.{wide8, wide32}
+use Rattle.file_fields.proofs.NameField.{name_takes, name_again}
+use Rattle.file_fields.proofs.Padded.{is-between}
 use Rattle.object_alloc.specs.declared.fault.ImageKind.TheVariants as kinds
 use Rattle.object_alloc.specs.Free.{are_free, end_of}
 use Rattle.object_alloc.specs.Listed.{Named, objects_of, has_name, limit_of}
 use Rattle.object_alloc.specs.Spelling.{object_bytes, IsObject}
 use Rattle.object_alloc.specs.Reading.{field_at, name_at, place_at, count_at, object_at}
-use Rattle.file_fields.specs.Fields.{IsBytes, name_bytes, ◌>>=◌, rule}
-use Rattle.file_fields.proofs.Held.{Holds, Holds-then, Holds-front, Holds-back, bind_ok, ok_is}
-use Rattle.file_fields.proofs.Held.{rule_ok, wide8, wide16, wide32, field_takes, field_again}
-use Rattle.file_fields.proofs.NameField.{name_takes, name_again}
-use Rattle.file_fields.proofs.Padded.{between_is, is-between, name_size}
 
 -- ---- the place
 

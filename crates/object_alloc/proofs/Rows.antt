@@ -1,25 +1,21 @@
 -- Rows of bits and their bytes.
-use Rattle.std.proofs.Common.{◌≡◌, ℕ, zero, suc, ◌+◌, ◌-◌, ◌*◌, ◌/◌, ◌%◌, ◌^◌, ◌<◌, ◌≤◌, ◌==◌, Bool}
-use Rattle.std.proofs.Common.{List, [], ◌∷◌, ◌++◌, length, get_or, take, drop, map, refl, sym, ap}
-use Rattle.std.proofs.Common.{◌∙◌, arith, inl, inr, mul-add, mul_assoc, mul_comm, mul-le-mul_left}
-use Rattle.std.specs.List.{flat_map, range_with_len}
-use Rattle.std.proofs.Math.Nat.{pow-succ'}
-use Rattle.std.proofs.lemmas.List.{ext_get_or, get_or-map, length-map, length-take, length-drop}
-use Rattle.std.proofs.lemmas.List.{length-append, get_or-take, get_or-drop, get_or_past, take_at}
-use Rattle.std.proofs.lemmas.List.{drop_at, drop-drop, drop-take, take-take, take_all}
-use Rattle.std.proofs.lemmas.List.FromFn.{get_or-range_with_len, length-range_with_len}
+use Rattle.object_alloc.proofs.Common.{◌≡◌, ℕ, zero, suc, ◌+◌, ◌-◌, ◌*◌, ◌/◌, ◌%◌, ◌^◌, ◌<◌, ◌≤◌}
+use Rattle.object_alloc.proofs.Common.{◌==◌, Bool, List, [], ◌∷◌, ◌++◌, length, get_or, take, drop}
+use Rattle.object_alloc.proofs.Common.{refl, sym, ap, ◌∙◌, arith, inl, inr, flat_map}
+use Rattle.object_alloc.proofs.Common.{range_with_len, pow-succ', get_or-map, length-map}
+use Rattle.object_alloc.proofs.Common.{length-append, take_at, drop_at, drop-drop, take_all}
+use Rattle.object_alloc.proofs.Common.{get_or-range_with_len, length-range_with_len, cases_lt}
+use Rattle.object_alloc.proofs.Common.{nat_tests, bits, Geometry, column_count, IsBytes}
+use Rattle.std.proofs.Common.{map, mul-add, mul_assoc, mul_comm, mul-le-mul_left}
+use Rattle.std.proofs.lemmas.List.{ext_get_or, length-take, length-drop, get_or-take, get_or-drop}
+use Rattle.std.proofs.lemmas.List.{get_or_past, drop-take, take-take}
 use Rattle.std.proofs.lemmas.Nat.{mul-add-lt}
-use Rattle.std.proofs.lemmas.Bool.{cases_lt}
-use Rattle.std.proofs.lemmas.Bool.Decides.{nat_tests}
-use Rattle.bit_rows.specs.Bits.{bits, value, bit_number}
+use Rattle.bit_rows.specs.Bits.{value, bit_number}
 use Rattle.bit_rows.proofs.Words.{length-bits, bits-cons}
-use Rattle.dram_model.specs.declared.geometry.Geometry.{Geometry}
-use Rattle.dram_model.specs.Elements.{column_count}
 use Rattle.object_alloc.specs.Bytes.{bits_of_bytes, bytes_of_bits}
 use Rattle.object_alloc.specs.Spelling.{Rows, rows_bytes, row_at, rows_in}
 use Rattle.object_alloc.specs.Reading.{rows_size}
 use Rattle.object_alloc.proofs.Pieces.{joined_all, flat_map-range, length-pieces, piece_at}
-use Rattle.file_fields.specs.Fields.{IsBytes}
 
 low_bit : (v : ℕ) → bit_number (v % 2 == 1) + 2 * (v / 2) ≡ v
 low_bit v = grind (arith, nat_tests)

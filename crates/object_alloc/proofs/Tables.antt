@@ -1,40 +1,31 @@
 -- A table stays one.
-use Rattle.std.proofs.Common.{◌≡◌, ◌≢◌, ℕ, ◌+◌, ◌-◌, ◌<◌, ◌≤◌, Bool, true, false, not}
-use Rattle.std.proofs.Common.{List, [], ◌∷◌, ◌++◌, length, get_or, refl, sym, subst}
-use Rattle.std.proofs.Common.{arith, length-append}
-use Rattle.std.specs.List.{list_all, range_with_len}
-use Rattle.std.specs.Str.{bytes_eq}
-use Rattle.std.proofs.lemmas.Bool.Decides.{nat_tests, not_from_Decides}
-use Rattle.std.proofs.lemmas.List.Folds.{list_all_at, list_any_at}
-use Rattle.std.proofs.lemmas.List.Elements.{All-push, All-filter}
+use Rattle.object_alloc.proofs.Common.{false_from_ne_true, ◌≡◌, ◌≢◌, ℕ, ◌+◌, ◌-◌, ◌<◌, ◌≤◌, Bool}
+use Rattle.object_alloc.proofs.Common.{true, false, not, List, [], ◌∷◌, ◌++◌, length, get_or, refl}
+use Rattle.object_alloc.proofs.Common.{sym, subst, arith, list_all, range_with_len, bytes_eq}
+use Rattle.object_alloc.proofs.Common.{nat_tests, list_all_at, All-push, All-filter}
+use Rattle.object_alloc.proofs.Common.{bytes_eq-Decides, length-map, get_or-map}
+use Rattle.std.proofs.lemmas.Bool.{true_from_ne_false}
+use Rattle.std.proofs.Common.{length-append}
+use Rattle.std.proofs.lemmas.Bool.Decides.{not_from_Decides}
+use Rattle.std.proofs.lemmas.List.Folds.{list_any_at}
 use Rattle.std.proofs.lemmas.List.Quantifiers.{all_pairs_push}
 use Rattle.std.proofs.lemmas.List.Kept.{AllPairs-filter}
 use Rattle.std.proofs.lemmas.List.Filters.{length-filter_both}
-use Rattle.std.proofs.lemmas.Slice.Eq.{bytes_eq-Decides}
-use Rattle.std.proofs.lemmas.List.{length-map, get_or-map}
 use Rattle.object_alloc.specs.declared.table.Object.{Object}
 use Rattle.object_alloc.specs.Free.{has_row, is_free, are_free, AreApart, end_of}
 use Rattle.object_alloc.specs.Listed.{Named, Listing, IsTable, objects_of, has_name, without}
 use Rattle.object_alloc.proofs.Bases.{not_all_range}
 
-pub if_not_false : (b : Bool) → (b ≡ false → ⊥) → b ≡ true
-if_not_false true h = refl
-if_not_false false h = absurd (h refl)
-
-pub if_not_true : (b : Bool) → (b ≡ true → ⊥) → b ≡ false
-if_not_true true h = absurd (h refl)
-if_not_true false h = refl
-
 -- what holds along a range holds in it
 pub in_range : (p : ℕ → Bool) (a n c : ℕ) → list_all p (range_with_len a n) ≡ true → a ≤ c
     → c < a + n → p c ≡ true
-in_range p a n c h l m = if_not_false (p c) (λ f. let g = not_all_range p a n c l m f in cc)
+in_range p a n c h l m = true_from_ne_false (p c) (λ f. let g = not_all_range p a n c l m f in cc)
 
 -- the rows that a new object takes are in no other
 apart_from : (limit : ℕ) (pairs : List Named) (o : Object)
     → are_free limit (objects_of pairs) o.width o.base ≡ true → (k : ℕ) (d : Named)
     → k < length pairs → AreApart (get_or pairs k d).1 o
-apart_from limit pairs o h k d l row r = if_not_true (has_row o row) (λ t.
+apart_from limit pairs o h k d l row r = false_from_ne_true (has_row o row) (λ t.
     let rows : (o.base ≤ row) × (row < o.base + o.width) = grind (arith, nat_tests) in
     let free : is_free limit (objects_of pairs) row ≡ true =
     in_range (is_free limit (objects_of pairs)) o.base o.width row h rows.0 rows.1 in
@@ -49,7 +40,7 @@ apart_from limit pairs o h k d l row r = if_not_true (has_row o row) (λ t.
     cc)
 
 same_name : (name : List ℕ) → bytes_eq name name ≡ true
-same_name name = if_not_false _ (λ f. not_from_Decides _ (bytes_eq-Decides name name) f refl)
+same_name name = true_from_ne_false _ (λ f. not_from_Decides _ (bytes_eq-Decides name name) f refl)
 
 name_from : (pairs : List Named) (name : List ℕ) → has_name pairs name ≡ false → (k : ℕ) (d : Named)
     → k < length pairs → (get_or pairs k d).0 ≢ name

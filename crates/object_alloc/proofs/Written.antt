@@ -1,16 +1,12 @@
 -- Bytes that are appended.
-use Rattle.std.proofs.Common.{◌≡◌, ℕ, zero, suc, ◌+◌, ◌-◌, ◌*◌, false, Some, List, [], ◌∷◌, ◌++◌}
-use Rattle.std.proofs.Common.{Bool, length, take, replicate, refl, sym, ap, ◌∙◌, append_assoc}
-use Rattle.std.proofs.Common.{arith}
+use Rattle.object_alloc.proofs.Common.{◌≡◌, ℕ, zero, suc, ◌+◌, ◌-◌, ◌*◌, false, Some, List, [], ◌∷◌}
+use Rattle.object_alloc.proofs.Common.{◌++◌, Bool, length, take, refl, sym, ap, ◌∙◌, append_assoc}
+use Rattle.object_alloc.proofs.Common.{arith, flat_map, range_with_len, flat_map-append, append-nil}
+use Rattle.object_alloc.proofs.Common.{take_all, bits, Geometry, column_count, IsBytes}
+use Rattle.std.proofs.Common.{replicate}
 use Rattle.std.specs.Prelude.{slice_get}
-use Rattle.std.specs.List.{flat_map, range_with_len}
-use Rattle.std.proofs.lemmas.Grind.{flat_map-append}
 use Rattle.std.proofs.lemmas.Option.{slice_get_within, get_or_from_slice_get}
-use Rattle.std.proofs.lemmas.List.{append-nil, replicate-append-replicate, length-replicate}
-use Rattle.std.proofs.lemmas.List.{take_all, take_more}
-use Rattle.bit_rows.specs.Bits.{bits}
-use Rattle.dram_model.specs.declared.geometry.Geometry.{Geometry}
-use Rattle.dram_model.specs.Elements.{column_count}
+use Rattle.std.proofs.lemmas.List.{replicate-append-replicate, length-replicate, take_more}
 use Rattle.object_alloc.specs.Bytes.{bits_of_bytes, bytes_of_bits}
 use Rattle.object_alloc.specs.Spelling.{object_bytes, head_bytes, rows_bytes, blank_rows}
 use Rattle.object_alloc.specs.Spelling.{image_bytes, opening_bytes, geometry_bytes}
@@ -18,7 +14,6 @@ use Rattle.object_alloc.specs.Listed.{Named}
 use Rattle.object_alloc.specs.Reading.{rows_size}
 use Rattle.object_alloc.proofs.Pieces.{flat_map-range}
 use Rattle.object_alloc.proofs.Rows.{bytes-bits, whole_size}
-use Rattle.file_fields.specs.Fields.{IsBytes}
 
 pub five : (start a b c d e : List ℕ) → ((((start ++ a) ++ b) ++ c) ++ d) ++ e
     ≡ start ++ ((a ++ b) ++ (c ++ (d ++ e)))

@@ -1,35 +1,22 @@
 -- What an instruction comes to, where it is done and where it is refused.
-use Rattle.std.proofs.Common.{◌≡◌, ℕ, ◌+◌, ◌<◌, ◌≤◌, true, false, List, [], Option, Some}
-use Rattle.std.proofs.Common.{None, length, map, refl, sym, ◌∙◌, ap, arith, nat_le, position}
-use Rattle.std.proofs.Common.{◌-◌, ◌∷◌, ◌++◌, append-nil, cond, subst}
-use Rattle.std.specs.Prelude.{◌^◌, unwrap_or}
+use Rattle.object_steps.proofs.Common.{◌≡◌, ℕ, ◌+◌, ◌<◌, ◌≤◌, true, false, List, [], Option, Some}
+use Rattle.object_steps.proofs.Common.{None, length, map, refl, sym, ◌∙◌, ap, arith, nat_le}
+use Rattle.object_steps.proofs.Common.{position, ◌-◌, ◌∷◌, ◌++◌, append-nil, cond, subst, ◌^◌}
+use Rattle.object_steps.proofs.Common.{unwrap_or, Geometry, Banks, Event, Counters, ChipView, Did}
+use Rattle.object_steps.proofs.Common.{DidRead, with_reads, Known, StoppedWithin, Grew-none, Counts}
+use Rattle.object_steps.proofs.Common.{Object, are_free, free, Named, Place, Load, Why, Routines}
+use Rattle.object_steps.proofs.Common.{is_absent, goes_past, rows_of, refusal, at_place, first}
+use Rattle.object_steps.proofs.Common.{at_place-map, option_map}
 use Rattle.std.proofs.lemmas.Bool.{eq-eqb}
-use Rattle.dram_model.specs.declared.geometry.Geometry.{Geometry}
-use Rattle.dram_model.specs.Chip.{Banks, Event}
-use Rattle.dram_model.specs.declared.dram.Counters.{Counters}
-use Rattle.dram_model.specs.View.{ChipView, Did, DidRead, with_reads}
-use Rattle.host_edge.specs.Views.{Known}
-use Rattle.transpose_unit.specs.Stopped.{StoppedWithin}
-use Rattle.dram_model.proofs.EventLaws.{Did-none, Grew-none}
-use Rattle.uprog_code.specs.declared.walker.Counts.{Counts}
-use Rattle.object_alloc.specs.declared.table.Object.{Object}
-use Rattle.object_alloc.specs.Free.{are_free, free}
-use Rattle.object_alloc.specs.Listed.{Named}
+use Rattle.dram_model.proofs.EventLaws.{Did-none}
 use Rattle.object_alloc.proofs.Tables.{in_range}
 use Rattle.machine_model.proofs.Below.{base_free, row_within}
 use Rattle.object_alloc.specs.Free.{is_free}
 use Rattle.std.specs.Prelude.{is_none}
-use Rattle.bbop_isa.specs.declared.instr.Place.{Place}
-use Rattle.bbop_isa.specs.Forms.{Load}
-use Rattle.machine_model.specs.declared.Why.{Why}
-use Rattle.machine_model.specs.declared.Why.TheVariants as why
 use Rattle.machine_model.specs.declared.Reply.TheVariants.{Done, Refused}
-use Rattle.machine_model.specs.Routines.{Routines}
-use Rattle.machine_model.specs.Refusals.{is_absent, goes_past, rows_of, refusal, at_place, first}
 use Rattle.machine_model.specs.Steps.{if_done, reply_by}
-use Rattle.machine_model.proofs.First.{at_place-map}
+use Rattle.machine_model.specs.declared.Why.TheVariants as why
 use Rattle.object_steps.proofs.Refused.{alone}
-use Rattle.std.specs.Option.{option_map}
 
 pub did_all : (r : Option Why) (events : List Event) (a b : ChipView) → r ≡ None → Did events a b
     → Did (if_done r events []) a b

@@ -1,11 +1,10 @@
 -- Values of few bits.
-use Rattle.std.proofs.Common.{◌≡◌, ℕ, ◌/◌, ◌<◌, ◌≤◌, ◌^◌, true, false, not, refl, arith}
-use Rattle.std.proofs.Common.{nat_le, nat_lt, nat_eq, inl, inr}
+use Rattle.object_steps.proofs.Common.{◌≡◌, ℕ, ◌/◌, ◌<◌, ◌≤◌, true, false, not, refl, arith, nat_le}
+use Rattle.object_steps.proofs.Common.{inl, inr, cases_lt, nat_tests}
+use Rattle.std.proofs.Common.{◌^◌, nat_lt, nat_eq}
 use Rattle.std.proofs.Math.Nat.{div-eq_of_lt}
 use Rattle.std.proofs.Math.Pow.{pow_mono}
 use Rattle.std.proofs.lemmas.Nat.{le-div}
-use Rattle.std.proofs.lemmas.Bool.{cases_lt}
-use Rattle.std.proofs.lemmas.Bool.Decides.{nat_tests}
 
 divides : (v m : ℕ) → 0 < m → not (nat_eq (v / m) 0) ≡ nat_le m v
 divides v m some = elim (cases_lt v m) [

@@ -1,22 +1,16 @@
 -- Rows that take bits, one after another.
-use Rattle.std.proofs.Common.{◌≡◌, ◌≢◌, ℕ, zero, suc, ◌+◌, ◌*◌, ◌<◌, Bool, true, false, List}
-use Rattle.std.proofs.Common.{[], ◌∷◌, map, refl, sym, ◌∙◌, arith, add-one}
-use Rattle.std.specs.Prelude.{flat_map, nat_lt, Result, Ok, Err, OnErr}
-use Rattle.std.specs.List.{range_with_len}
-use Rattle.std.proofs.Math.Nat.{suc-mul}
+use Rattle.object_steps.proofs.Common.{◌≡◌, ◌≢◌, ℕ, zero, suc, ◌+◌, ◌*◌, ◌<◌, Bool, true, false}
+use Rattle.object_steps.proofs.Common.{List, [], ◌∷◌, map, refl, sym, ◌∙◌, arith, add-one, flat_map}
+use Rattle.object_steps.proofs.Common.{nat_lt, range_with_len, suc-mul, nat_tests, bit_at}
+use Rattle.object_steps.proofs.Common.{bit_number, Aap, Banks, Event, Row, ChipView, Did, Object}
+use Rattle.std.specs.Prelude.{Result, Ok, Err, OnErr}
 use Rattle.std.proofs.lemmas.Bool.{ne_eqb}
-use Rattle.std.proofs.lemmas.Bool.Decides.{nat_tests}
 use Rattle.std.proofs.lemmas.List.FromFn.{map-range_with_len_more}
-use Rattle.bit_rows.specs.Bits.{bit_at, bit_number}
-use Rattle.dram_model.specs.declared.address.Command.TheVariants.{Aap}
 use Rattle.dram_model.specs.declared.address.Addr.{Addr}
-use Rattle.dram_model.specs.declared.address.Addr.TheVariants as addr
 use Rattle.dram_model.specs.Column.{is_legal}
-use Rattle.dram_model.specs.Chip.{Banks, Event, after, happens}
-use Rattle.dram_model.specs.Chip.Event.{Row}
-use Rattle.dram_model.specs.View.{ChipView, Did}
+use Rattle.dram_model.specs.Chip.{after, happens}
 use Rattle.dram_model.proofs.EventLaws.{Did-more}
-use Rattle.object_alloc.specs.declared.table.Object.{Object}
+use Rattle.dram_model.specs.declared.address.Addr.TheVariants as addr
 use Rattle.object_steps.specs.Objects.{filled_in}
 use Rattle.object_steps.proofs.Valued.{flat_suc}
 

@@ -1,25 +1,20 @@
 -- The object that a name finds.
-use Rattle.std.proofs.Common.{◌≡◌, ℕ, Bool, true, false, cond, List, [], ◌∷◌, Option, Some, None}
-use Rattle.std.proofs.Common.{refl, sym, ◌∙◌, ap, subst, arith}
-use Rattle.std.specs.Prelude.{All, is_some, unwrap_or, not, ◌||◌, ◌^◌, ◌<◌, ◌≤◌}
+use Rattle.object_steps.proofs.Common.{◌≡◌, ℕ, Bool, true, false, cond, List, [], ◌∷◌, Option, Some}
+use Rattle.object_steps.proofs.Common.{None, refl, sym, ◌∙◌, ap, subst, arith, All, is_some}
+use Rattle.object_steps.proofs.Common.{unwrap_or, ◌^◌, option_map, bytes_eq, Object, end_of, Named}
+use Rattle.object_steps.proofs.Common.{has_name, look_up, without, Geometry, IsObject, Why, first}
+use Rattle.object_steps.proofs.Common.{is_absent, object_named, when, look_up-some}
+use Rattle.std.specs.Prelude.{not, ◌||◌, ◌<◌, ◌≤◌}
 use Rattle.std.specs.List.{find}
-use Rattle.std.specs.Option.{option_map}
-use Rattle.std.specs.Str.{bytes_eq}
 use Rattle.std.proofs.lemmas.List.Elements.{All-head, All-tail, recursion_from_All}
-use Rattle.object_alloc.specs.declared.table.Object.{Object}
-use Rattle.object_alloc.specs.Free.{end_of}
-use Rattle.object_alloc.specs.Listed.{IsTable, Named, has_name, look_up, without}
-use Rattle.dram_model.specs.declared.geometry.Geometry.{Geometry}
-use Rattle.object_alloc.specs.Spelling.{IsObject}
+use Rattle.object_alloc.specs.Listed.{IsTable}
 use Rattle.bbop_isa.specs.declared.instr.Part.{Part}
-use Rattle.machine_model.specs.declared.Why.{Why}
-use Rattle.machine_model.specs.declared.Why.TheVariants as why
 use Rattle.machine_model.specs.Places.{cut, is_past}
-use Rattle.machine_model.specs.Refusals.{first, is_absent, nothing, object_named, when}
-use Rattle.machine_model.proofs.First.{look_up-some}
+use Rattle.machine_model.specs.Refusals.{nothing}
 use Rattle.machine_model.proofs.Bbops.{part_end}
 use Rattle.machine_model.proofs.Sliced.{within}
 use Rattle.machine_model.proofs.Tables.{object_holds}
+use Rattle.machine_model.specs.declared.Why.TheVariants as why
 use Rattle.object_steps.specs.Objects.{FitsOn}
 
 -- an object that is found has its name in the table

@@ -1,9 +1,7 @@
 -- Text that is put in pieces: what was put, and what is held back.
-use Rattle.std.proofs.Common.{◌≡◌, ℕ, List, [], ◌++◌, Option, sym, ◌∙◌, ap, subst}
-use Rattle.std.proofs.Common.{append_assoc, append-nil}
-use Rattle.host_edge.specs.Views.{Known, AppendsPart}
+use Rattle.object_steps.proofs.Common.{◌≡◌, ℕ, List, [], ◌++◌, Option, sym, ◌∙◌, ap, subst}
+use Rattle.object_steps.proofs.Common.{append_assoc, append-nil, Known, AppendsPart, AppendsUpTo}
 use Rattle.host_edge.proofs.Tells.{Known-trans, Known-map}
-use Rattle.host_edge.specs.Sends.{AppendsUpTo}
 
 held_more : (held left piece : List ℕ) (x y : List ℕ) → AppendsUpTo left held x y
     → AppendsUpTo (left ++ piece) (held ++ piece) x y

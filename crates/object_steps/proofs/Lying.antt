@@ -1,12 +1,8 @@
 -- Tables that lie on a chip, with an object more or less.
-use Rattle.std.proofs.Common.{◌≡◌, ℕ, ◌<◌, true, false, not, List, [], ◌∷◌, ◌++◌, length}
-use Rattle.std.specs.Str.{bytes_eq}
+use Rattle.object_steps.proofs.Common.{◌≡◌, ℕ, ◌<◌, true, false, not, List, [], ◌∷◌, ◌++◌, length}
+use Rattle.object_steps.proofs.Common.{bytes_eq, Geometry, Object, are_free, Listing, Named}
+use Rattle.object_steps.proofs.Common.{has_name, limit_of, objects_of, without, IsObject}
 use Rattle.std.proofs.lemmas.List.Elements.{All-filter, All-push}
-use Rattle.dram_model.specs.declared.geometry.Geometry.{Geometry}
-use Rattle.object_alloc.specs.declared.table.Object.{Object}
-use Rattle.object_alloc.specs.Free.{are_free}
-use Rattle.object_alloc.specs.Listed.{Listing, Named, has_name, limit_of, objects_of, without}
-use Rattle.object_alloc.specs.Spelling.{IsObject}
 use Rattle.object_alloc.proofs.Tables.{IsTable-add, IsTable-without}
 use Rattle.object_steps.specs.Objects.{LiesOn}
 

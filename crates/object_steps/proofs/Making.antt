@@ -1,18 +1,10 @@
 -- When an object may be made, and where.
-use Rattle.std.proofs.Common.{◌≡◌, ℕ, ◌*◌, ◌<◌, ◌≤◌, Bool, true, false, List, Option, Some, None}
-use Rattle.std.proofs.Common.{length, refl, sym, ◌∙◌, ap, arith, nat_le}
-use Rattle.std.specs.Prelude.{is_some, nat_lt}
-use Rattle.std.proofs.lemmas.Bool.Decides.{nat_tests}
-use Rattle.dram_model.specs.declared.geometry.Geometry.{Geometry}
-use Rattle.dram_model.specs.Elements.{column_count}
-use Rattle.object_alloc.specs.declared.table.Object.{Object}
-use Rattle.object_alloc.specs.Free.{free}
-use Rattle.object_alloc.specs.Listed.{Named, has_name, limit_of, look_up, objects_of}
-use Rattle.bbop_isa.specs.Forms.{Init}
+use Rattle.object_steps.proofs.Common.{◌≡◌, ℕ, ◌*◌, ◌<◌, ◌≤◌, Bool, true, false, List, Option, Some}
+use Rattle.object_steps.proofs.Common.{None, length, refl, sym, ◌∙◌, ap, arith, nat_le, is_some}
+use Rattle.object_steps.proofs.Common.{nat_lt, nat_tests, Geometry, column_count, Object, free}
+use Rattle.object_steps.proofs.Common.{Named, has_name, limit_of, look_up, objects_of, Init}
+use Rattle.object_steps.proofs.Common.{Routines, refusal, look_up-some}
 use Rattle.machine_model.specs.declared.Why.TheVariants as why
-use Rattle.machine_model.specs.Routines.{Routines}
-use Rattle.machine_model.specs.Refusals.{refusal}
-use Rattle.machine_model.proofs.First.{look_up-some}
 
 pub tells : (pairs : List Named) (name : List ℕ) (found : Option Object) (known : Bool) (is : Bool)
     → found ≡ look_up pairs name → known ≡ is_some found → known ≡ is → has_name pairs name ≡ is

@@ -1,17 +1,11 @@
 -- The first condition that holds.
-use Rattle.std.proofs.Common.{◌≡◌, ℕ, ◌+◌, ◌<◌, false, List, [], ◌∷◌}
-use Rattle.std.proofs.Common.{Option, Some, None, map, position, refl, sym, ◌∙◌, ap, arith}
-use Rattle.std.proofs.Common.{nat_le}
-use Rattle.std.specs.Prelude.{All, ◌^◌}
+use Rattle.object_steps.proofs.Common.{◌≡◌, ℕ, ◌+◌, ◌<◌, false, List, [], ◌∷◌, Option, Some, None}
+use Rattle.object_steps.proofs.Common.{map, position, refl, sym, ◌∙◌, ap, arith, nat_le, All, ◌^◌}
+use Rattle.object_steps.proofs.Common.{option_map, nat_tests, Why, at_place, first, at_place-map}
 use Rattle.std.specs.List.{AllByRecursion}
-use Rattle.std.specs.Option.{option_map}
-use Rattle.std.proofs.lemmas.Bool.Decides.{nat_tests}
 use Rattle.std.proofs.lemmas.List.Elements.{All-from_recursion}
-use Rattle.machine_model.specs.declared.Why.{Why}
-use Rattle.machine_model.specs.declared.Why.TheVariants as why
-use Rattle.machine_model.specs.Refusals.{at_place, first}
 use Rattle.machine_model.proofs.Facts.{place_none}
-use Rattle.machine_model.proofs.First.{at_place-map}
+use Rattle.machine_model.specs.declared.Why.TheVariants as why
 
 pub alone : (found : Option Why) → first (found ∷ []) ≡ found
 alone None = refl

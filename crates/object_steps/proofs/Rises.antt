@@ -1,28 +1,18 @@
 -- How much an object's events raise the counters.
-use Rattle.std.proofs.Common.{◌≡◌, ℕ, zero, suc, ◌+◌, ◌*◌, ◌≤◌, List, [], ◌∷◌, length, map, arith}
-use Rattle.std.proofs.Common.{refl, length-append, mul-le-mul_left, mul-le-mul_right}
-use Rattle.std.proofs.Math.Nat.{suc-mul}
-use Rattle.std.specs.Prelude.{flat_map}
-use Rattle.std.specs.List.{range_with_len}
-use Rattle.dram_model.specs.declared.address.Command.TheVariants.{Ap, Aap}
-use Rattle.dram_model.specs.declared.dram.Counters.{Counters}
-use Rattle.dram_model.specs.Chip.{Event, all_counted, counted}
-use Rattle.dram_model.specs.Chip.Event.{Row, Write}
-use Rattle.dram_model.specs.Elements.{row_by_row}
+use Rattle.object_steps.proofs.Common.{◌≡◌, ℕ, zero, suc, ◌+◌, ◌*◌, ◌≤◌, List, [], ◌∷◌, length, map}
+use Rattle.object_steps.proofs.Common.{arith, refl, length-append, mul-le-mul_right, suc-mul}
+use Rattle.object_steps.proofs.Common.{flat_map, range_with_len, Aap, Counters, Event, Row, Write}
+use Rattle.object_steps.proofs.Common.{◌<◌, true, inl, inr, mul_comm, cases_lt, nat_tests}
+use Rattle.object_steps.proofs.Common.{div_ceil_times, Geometry, column_count, segments_of}
+use Rattle.object_steps.proofs.Common.{with_reads, Object, segments, load_events}
+use Rattle.std.proofs.Common.{mul-le-mul_left, mul-add}
+use Rattle.dram_model.specs.declared.address.Command.TheVariants.{Ap}
+use Rattle.dram_model.specs.Chip.{all_counted, counted}
+use Rattle.dram_model.specs.Elements.{row_by_row, write_events}
 use Rattle.dram_model.proofs.EventLaws.{counted-bound}
-use Rattle.object_steps.specs.Objects.{RisesAtMost}
-use Rattle.std.proofs.Common.{◌<◌, true, inl, inr, mul_comm, mul-add}
-use Rattle.std.proofs.lemmas.Bool.{cases_lt}
-use Rattle.std.proofs.lemmas.Bool.Decides.{nat_tests}
-use Rattle.std.proofs.lemmas.Grind.{div_ceil_times}
-use Rattle.dram_model.specs.declared.geometry.Geometry.{Geometry}
 use Rattle.dram_model.specs.Geometry.{is_geometry}
-use Rattle.dram_model.specs.Elements.{column_count, segments_of, write_events}
-use Rattle.dram_model.specs.View.{with_reads}
-use Rattle.object_alloc.specs.declared.table.Object.{Object}
+use Rattle.object_steps.specs.Objects.{RisesAtMost}
 use Rattle.object_steps.specs.Objects.{FitsOn}
-use Rattle.machine_model.specs.Columns.{segments}
-use Rattle.machine_model.specs.Steps.{load_events}
 
 no_reads : (events : List Event) (counters : Counters)
     → (all_counted events counters).reads ≡ counters.reads

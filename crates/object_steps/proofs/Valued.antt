@@ -1,32 +1,23 @@
 -- The text of values, and the values of some banks.
-use Rattle.std.proofs.Common.{◌≡◌, ℕ, zero, suc, ◌+◌, ◌-◌, ◌*◌, ◌/◌, ◌<◌, ◌≤◌, List, [], ◌∷◌, ◌++◌}
-use Rattle.std.proofs.Common.{length, map, take, drop, refl, sym, ◌∙◌, ap, arith, add-one}
-use Rattle.std.proofs.Common.{append_assoc, append-nil, length-append, inl, inr, Bool, true, false}
-use Rattle.std.specs.Prelude.{flat_map, codes, decimal, min, nat_le, if◌then◌else◌}
-use Rattle.std.specs.List.{range_with_len}
-use Rattle.std.proofs.Common.{mul_comm, mul-le-mul_right}
-use Rattle.std.proofs.Math.Nat.{suc-mul}
+use Rattle.object_steps.proofs.Common.{◌≡◌, ℕ, zero, suc, ◌+◌, ◌-◌, ◌*◌, ◌/◌, ◌<◌, ◌≤◌, List, []}
+use Rattle.object_steps.proofs.Common.{◌∷◌, ◌++◌, length, map, take, drop, refl, sym, ◌∙◌, ap}
+use Rattle.object_steps.proofs.Common.{arith, add-one, append_assoc, append-nil, length-append, inl}
+use Rattle.object_steps.proofs.Common.{inr, Bool, true, false, flat_map, codes, decimal, min}
+use Rattle.object_steps.proofs.Common.{range_with_len, mul_comm, mul-le-mul_right, suc-mul}
+use Rattle.object_steps.proofs.Common.{Geometry, Object, columns, segments, Named, Routines, Place}
+use Rattle.object_steps.proofs.Common.{place_text, is_absent, goes_past, rows_of, cases_lt}
+use Rattle.object_steps.proofs.Common.{div_ceil_times, get_or, Banks, column_count, segments_of}
+use Rattle.object_steps.proofs.Common.{stage_number, stage_rows}
+use Rattle.std.specs.Prelude.{nat_le, if◌then◌else◌}
 use Rattle.std.proofs.lemmas.Nat.{div-mul-add}
-use Rattle.dram_model.specs.declared.geometry.Geometry.{Geometry}
-use Rattle.object_alloc.specs.declared.table.Object.{Object}
-use Rattle.machine_model.specs.Columns.{columns, segments}
-use Rattle.object_alloc.specs.Listed.{Named}
-use Rattle.machine_model.specs.Routines.{Routines}
-use Rattle.bbop_isa.specs.declared.instr.Place.{Place}
-use Rattle.machine_model.specs.Report.{place_text}
-use Rattle.machine_model.specs.Refusals.{is_absent, goes_past, rows_of}
 use Rattle.std.proofs.Math.Seq.{take-append-add}
-use Rattle.std.proofs.lemmas.Bool.{cases_lt}
-use Rattle.std.proofs.lemmas.Grind.{flat_map-append, div_ceil_times}
-use Rattle.std.proofs.Common.{get_or}
+use Rattle.std.proofs.lemmas.Grind.{flat_map-append}
 use Rattle.std.proofs.lemmas.List.{take-append-drop, map-append, length-map, take_more, ext_get_or}
 use Rattle.std.proofs.lemmas.List.{get_or-take, get_or-drop, get_or-map, length-take, length-drop}
-use Rattle.std.proofs.lemmas.List.FromFn.{take-map-range_with_len}
-use Rattle.std.proofs.lemmas.List.FromFn.{length-range_with_len, get_or-range_with_len}
+use Rattle.std.proofs.lemmas.List.FromFn.{take-map-range_with_len, length-range_with_len}
+use Rattle.std.proofs.lemmas.List.FromFn.{get_or-range_with_len}
 use Rattle.dram_model.specs.Column.{Column}
-use Rattle.dram_model.specs.Chip.{Banks}
-use Rattle.dram_model.specs.Elements.{below, column_count, number, segments_of}
-use Rattle.transpose_unit.specs.Stage.{stage_number, stage_rows}
+use Rattle.dram_model.specs.Elements.{below, number}
 use Rattle.object_steps.specs.Lines.{printed_line, values_text}
 
 text_joined : (xs ys : List ℕ) → values_text (xs ++ ys) ≡ values_text xs ++ values_text ys

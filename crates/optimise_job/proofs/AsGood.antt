@@ -1,15 +1,8 @@
 -- What an outcome says of the entry that came of it.
-use Rattle.std.proofs.Common.{◌≡◌, ℕ, ◌-◌, ◌≤◌, List, [], ◌∷◌, length, refl, sym, ◌∙◌}
-use Rattle.std.proofs.Common.{subst}
-use Rattle.std.proofs.Common.{arith, Option, Some, None, Ok, Result}
-use Rattle.uprog_code.specs.declared.walker.BadWalk.{BadWalk}
-use Rattle.uprog_code.specs.declared.registers.Issued.{Issued}
-use Rattle.uprog_code.specs.declared.walker.Counts.{Counts}
-use Rattle.uprog_code.specs.Shape.{Microprogram}
-use Rattle.uprog_code.specs.Texts.{TextOp}
+use Rattle.optimise_job.proofs.Common.{◌≡◌, ℕ, ◌-◌, ◌≤◌, List, [], ◌∷◌, length, refl, sym, ◌∙◌}
+use Rattle.optimise_job.proofs.Common.{subst, arith, Option, Some, None, Ok, Result, BadWalk}
+use Rattle.optimise_job.proofs.Common.{Issued, Counts, Microprogram, TextOp, issues, DoesAt}
 use Rattle.optimise_job.specs.Outcomes.{op_named}
-use Rattle.width_entry.specs.Lines.{issues}
-use Rattle.verify_core.specs.Verdicts.{DoesAt}
 use Rattle.optimise_job.specs.declared.offer.Outcome.{Outcome}
 use Rattle.optimise_job.specs.declared.offer.Outcome.TheVariants as outcome
 use Rattle.optimise_job.specs.Outcomes.{AreOutcomes, IsOfferOf, IsOutcomeOf, IsShorter}

@@ -1,16 +1,14 @@
 -- The compiler's entry of a name, and the op that it does.
-use Rattle.std.proofs.Common.{◌≡◌, ℕ, zero, suc, ◌<◌, Bool, true, false, cond, List, [], ◌∷◌}
-use Rattle.std.proofs.Common.{length, map, refl, sym, ap, ◌∙◌, subst, arith, Option, Some, None}
-use Rattle.std.specs.Prelude.{bytes_eq, find, nat_lt, position, slice_get, slice_index_or}
-use Rattle.std.specs.List.{AllByRecursion, position_or_len}
-use Rattle.std.specs.Option.{option_map}
+use Rattle.optimise_job.proofs.Common.{◌≡◌, ℕ, zero, suc, ◌<◌, Bool, true, false, cond, List, []}
+use Rattle.optimise_job.proofs.Common.{◌∷◌, length, map, refl, sym, ap, ◌∙◌, subst, arith, Option}
+use Rattle.optimise_job.proofs.Common.{Some, None, bytes_eq, position, slice_get, slice_index_or}
+use Rattle.optimise_job.proofs.Common.{AllByRecursion, option_map, slice_get-get_or, EntryCode}
+use Rattle.optimise_job.proofs.Common.{Microprogram, microprogram_of, shape_of, IsLegalCode}
+use Rattle.optimise_job.proofs.Common.{IsEntry, IsProgram, EntryDoes, ImplementsAll, TextOp}
+use Rattle.std.specs.Prelude.{find, nat_lt}
+use Rattle.std.specs.List.{position_or_len}
 use Rattle.std.proofs.lemmas.List.Folds.{find_at}
-use Rattle.std.proofs.lemmas.Option.{slice_get-get_or, slice_get_past}
-use Rattle.uprog_code.specs.declared.code.EntryCode.{EntryCode}
-use Rattle.uprog_code.specs.Shape.{Microprogram, microprogram_of, shape_of}
-use Rattle.uprog_code.specs.Legal.{IsLegalCode}
-use Rattle.uprog_code.specs.Programs.{IsEntry, IsProgram}
-use Rattle.uprog_code.specs.Texts.{EntryDoes, ImplementsAll, TextOp}
+use Rattle.std.proofs.lemmas.Option.{slice_get_past}
 use Rattle.optimise_job.specs.Outcomes.{op_named}
 
 find_map : {X Y : Type 0} (f : X → Y) (q : Y → Bool) (xs : List X)

@@ -1,21 +1,16 @@
 -- Where a program implements ops, one that is as good implements them.
-use Rattle.std.proofs.Common.{◌≡◌, ℕ, ◌+◌, ◌<◌, ◌≤◌, List, [], ◌∷◌, length, refl, sym, ap, ◌∙◌}
-use Rattle.std.proofs.Common.{subst, ⊎_elim, arith, Some, Ok}
-use Rattle.std.specs.Prelude.{◌≢◌, count_by, cond}
-use Rattle.std.proofs.lemmas.Bool.{cases_eq}
+use Rattle.optimise_job.proofs.Common.{◌≡◌, ℕ, ◌+◌, ◌<◌, ◌≤◌, List, [], ◌∷◌, length, refl, sym, ap}
+use Rattle.optimise_job.proofs.Common.{◌∙◌, subst, ⊎_elim, arith, Some, Ok, ◌≢◌, cases_eq}
+use Rattle.optimise_job.proofs.Common.{WIDTH_MAX, Counts, Microprogram, Shape, Ended, HasEnded}
+use Rattle.optimise_job.proofs.Common.{Issue, Stuck, Trace, trace, counts_of, walked, IsProgram}
+use Rattle.optimise_job.proofs.Common.{EntryDoes, ImplementsAll, TextOp, DoesAt}
+use Rattle.std.specs.Prelude.{count_by, cond}
 use Rattle.std.proofs.lemmas.List.Sums.{sum_by-cons}
-use Rattle.bit_rows.specs.declared.TheConstants.{WIDTH_MAX}
 use Rattle.uprog_code.specs.declared.code.Uop.{Uop}
-use Rattle.uprog_code.specs.declared.walker.Counts.{Counts}
-use Rattle.uprog_code.specs.Shape.{Microprogram, Shape}
-use Rattle.uprog_code.specs.Machine.{Ended, HasEnded, Issue, IssueAap, IssueAp, Stuck, Trace, issues_of}
-use Rattle.uprog_code.specs.Machine.{trace}
-use Rattle.uprog_code.specs.Count.{counts_of, issues_aap, issues_ap, walked}
+use Rattle.uprog_code.specs.Machine.{IssueAap, IssueAp, issues_of}
+use Rattle.uprog_code.specs.Count.{issues_aap, issues_ap}
 use Rattle.uprog_code.specs.Implements.{Gives, Implements, Keeps}
-use Rattle.uprog_code.specs.Programs.{IsProgram}
-use Rattle.uprog_code.specs.Texts.{EntryDoes, ImplementsAll, TextOp}
 use Rattle.optimise_job.specs.Outcomes.{op_named}
-use Rattle.verify_core.specs.Verdicts.{DoesAt}
 use Rattle.optimise_job.specs.Promise.{AreAsGood, IsAsGood}
 use Rattle.optimise_job.specs.Outcomes.{commands}
 use Rattle.optimise_job.proofs.Named.{AreNamed, are_named}

@@ -1,3 +1,4 @@
+pub mod Common
 pub mod AsGood
 pub mod Found
 pub mod Implemented

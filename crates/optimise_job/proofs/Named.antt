@@ -1,11 +1,10 @@
 -- The op of an entry's name, where a program implements ops.
-use Rattle.std.proofs.Common.{◌≡◌, ℕ, suc, ◌<◌, Bool, true, false, cond, List, [], ◌∷◌, length}
-use Rattle.std.proofs.Common.{refl, sym, ap, ◌∙◌, subst, arith, Some}
-use Rattle.std.specs.Prelude.{◌≢◌, bytes_eq, slice_index_or}
-use Rattle.std.specs.List.{AllByRecursion, AllPairs}
+use Rattle.optimise_job.proofs.Common.{◌≡◌, ℕ, suc, ◌<◌, Bool, true, false, cond, List, [], ◌∷◌}
+use Rattle.optimise_job.proofs.Common.{length, refl, sym, ap, ◌∙◌, subst, arith, Some, ◌≢◌}
+use Rattle.optimise_job.proofs.Common.{bytes_eq, slice_index_or, AllByRecursion, Microprogram}
+use Rattle.optimise_job.proofs.Common.{ImplementsAll, TextOp}
+use Rattle.std.specs.List.{AllPairs}
 use Rattle.std.proofs.lemmas.Slice.Eq.{bytes_eq-Decides}
-use Rattle.uprog_code.specs.Shape.{Microprogram}
-use Rattle.uprog_code.specs.Texts.{ImplementsAll, TextOp}
 use Rattle.optimise_job.specs.Outcomes.{op_named}
 
 -- each entry does the op of its name among all these ops

@@ -1,20 +1,15 @@
 -- What is said of the entry that came of an offer.
-use Rattle.std.proofs.Common.{◌≡◌, ℕ, ◌<◌, ◌≤◌, List, refl, sym, ap, ◌∙◌, subst, Some, None}
-use Rattle.std.proofs.Common.{Ok, Err, Result, length, ◌+◌, inl, inr, ⊎_elim, arith}
-use Rattle.std.specs.Prelude.{◌≢◌, ◌⊎◌, IfOk}
-use Rattle.std.proofs.lemmas.Bool.{cases_eq}
-use Rattle.bit_rows.specs.declared.TheConstants.{WIDTH_MAX}
-use Rattle.uprog_code.specs.declared.registers.Issued.{Issued}
-use Rattle.uprog_code.specs.declared.walker.BadWalk.{BadWalk}
-use Rattle.uprog_code.specs.declared.walker.Counts.{Counts}
-use Rattle.uprog_code.specs.Shape.{Microprogram}
-use Rattle.uprog_code.specs.Machine.{Ended, HasEnded, Issue, Stuck, Trace, trace}
-use Rattle.uprog_code.specs.Count.{counts_of, walked}
-use Rattle.uprog_code.specs.Texts.{TextOp}
+use Rattle.optimise_job.proofs.Common.{◌≡◌, ℕ, ◌<◌, ◌≤◌, List, refl, sym, ap, ◌∙◌, subst, Some}
+use Rattle.optimise_job.proofs.Common.{None, Ok, Result, length, ◌+◌, ⊎_elim, arith, ◌≢◌, cases_eq}
+use Rattle.optimise_job.proofs.Common.{WIDTH_MAX, Issued, BadWalk, Counts, Microprogram, Ended}
+use Rattle.optimise_job.proofs.Common.{HasEnded, Issue, Stuck, Trace, trace, counts_of, walked}
+use Rattle.optimise_job.proofs.Common.{TextOp, DoesAt}
+use Rattle.std.proofs.Common.{Err, inl, inr}
+use Rattle.std.specs.Prelude.{◌⊎◌, IfOk}
 use Rattle.width_entry.specs.Widths.{IsForWidth, moved, test_steps, trace_less}
 use Rattle.width_entry.proofs.Budget.{issues_same}
 use Rattle.verify_core.specs.declared.verdict.Verdict.TheVariants.{Right}
-use Rattle.verify_core.specs.Verdicts.{DoesAt, IsVerdict}
+use Rattle.verify_core.specs.Verdicts.{IsVerdict}
 use Rattle.optimise_job.specs.declared.offer.Outcome.{Outcome}
 use Rattle.optimise_job.specs.declared.offer.Outcome.TheVariants as outcome
 use Rattle.optimise_job.specs.declared.offer.Refusal.{Refusal}

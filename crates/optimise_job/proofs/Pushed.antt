@@ -1,20 +1,14 @@
 -- The outcomes of entries, one after another, and the program that comes of them.
-use Rattle.std.proofs.Common.{◌≡◌, ℕ, zero, suc, ◌+◌, ◌-◌, ◌<◌, ◌≤◌, List, [], ◌∷◌, ◌++◌, length}
-use Rattle.std.proofs.Common.{refl, sym, ap, ◌∙◌, subst, arith, take, Some, true}
-use Rattle.std.specs.Prelude.{◌^◌, slice_get, slice_index_or}
-use Rattle.std.specs.List.{AllByRecursion}
+use Rattle.optimise_job.proofs.Common.{◌≡◌, ℕ, zero, suc, ◌+◌, ◌-◌, ◌<◌, ◌≤◌, List, [], ◌∷◌, ◌++◌}
+use Rattle.optimise_job.proofs.Common.{length, refl, sym, ap, ◌∙◌, subst, arith, take, Some, true}
+use Rattle.optimise_job.proofs.Common.{slice_get, slice_index_or, AllByRecursion, slice_get-get_or}
+use Rattle.optimise_job.proofs.Common.{option_map, Issued, Microprogram, Shape, IsLegalCode}
+use Rattle.optimise_job.proofs.Common.{IsEntry, IsProgram, TextOp}
+use Rattle.std.specs.Prelude.{◌^◌, Vec}
 use Rattle.std.proofs.lemmas.List.{take_more}
-use Rattle.std.proofs.lemmas.Option.{get_or_from_slice_get, slice_get-get_or, slice_get-map}
-use Rattle.std.proofs.lemmas.Option.{slice_get_within}
+use Rattle.std.proofs.lemmas.Option.{get_or_from_slice_get, slice_get-map, slice_get_within}
 use Rattle.std.specs.Global.{Global}
-use Rattle.std.specs.Option.{option_map}
-use Rattle.std.specs.Prelude.{Vec}
 use Rattle.text_lex.specs.Spelled.{fits_name}
-use Rattle.uprog_code.specs.declared.registers.Issued.{Issued}
-use Rattle.uprog_code.specs.Shape.{Microprogram, Shape}
-use Rattle.uprog_code.specs.Legal.{IsLegalCode}
-use Rattle.uprog_code.specs.Programs.{IsEntry, IsProgram}
-use Rattle.uprog_code.specs.Texts.{TextOp}
 use Rattle.optimise_job.specs.declared.offer.Outcome.{Outcome}
 use Rattle.optimise_job.specs.Outcomes.{AreOutcomes, IsOutcome, lines_of}
 use Rattle.optimise_job.specs.Promise.{AreAsGood}

@@ -1,9 +1,7 @@
 -- What an outcome says of the op of the entry's name.
-use Rattle.std.proofs.Common.{◌≡◌, ℕ, ◌-◌, List, [], ◌∷◌, length, refl, sym, ap, ◌∙◌, subst, Option, Some, None}
-use Rattle.uprog_code.specs.declared.registers.Issued.{Issued}
-use Rattle.uprog_code.specs.Shape.{Microprogram}
-use Rattle.uprog_code.specs.Texts.{TextOp}
-use Rattle.verify_core.specs.Verdicts.{DoesAt}
+use Rattle.optimise_job.proofs.Common.{◌≡◌, ℕ, ◌-◌, List, [], ◌∷◌, length, refl, sym, ap, ◌∙◌}
+use Rattle.optimise_job.proofs.Common.{subst, Option, Some, None, Issued, Microprogram, TextOp}
+use Rattle.optimise_job.proofs.Common.{DoesAt}
 use Rattle.optimise_job.specs.declared.offer.Outcome.{Outcome}
 use Rattle.optimise_job.specs.declared.offer.Outcome.TheVariants as outcome
 use Rattle.optimise_job.specs.Outcomes.{AreOutcomes, IsOfferOf, IsOutcomeOf, op_named}

@@ -1,9 +1,6 @@
 -- How many instructions the program has.
-use Rattle.std.proofs.Common.{◌≡◌, ℕ, ◌+◌, ◌-◌, ◌≤◌, List, [], ◌∷◌, length, ap, arith, Option, Some}
-use Rattle.std.proofs.Common.{None}
-use Rattle.uprog_code.specs.declared.registers.Issued.{Issued}
-use Rattle.uprog_code.specs.Shape.{Microprogram}
-use Rattle.uprog_code.specs.Texts.{TextOp}
+use Rattle.optimise_job.proofs.Common.{◌≡◌, ℕ, ◌+◌, ◌-◌, ◌≤◌, List, [], ◌∷◌, length, ap, arith}
+use Rattle.optimise_job.proofs.Common.{Option, Some, None, Issued, Microprogram, TextOp}
 use Rattle.optimise_job.specs.declared.offer.Outcome.{Outcome}
 use Rattle.optimise_job.specs.declared.offer.Outcome.TheVariants as outcome
 use Rattle.optimise_job.specs.Outcomes.{AreOutcomes, IsOfferOf, IsOutcomeOf, op_named}

@@ -1,16 +1,12 @@
 -- What the commands of one node and of one output do to a column
-use Rattle.std.specs.Prelude.{◌≡◌, ℕ, ◌==◌, Bool, true, false, not, if◌then◌else◌, List, [], ◌∷◌}
-use Rattle.std.specs.Prelude.{refl}
-use Rattle.std.proofs.Common.{◌∙◌, ap}
+use Rattle.row_alloc.proofs.Common.{◌==◌, not, if◌then◌else◌, ◌∙◌, ap, Cell, T, Dcc, D, Line}
+use Rattle.row_alloc.proofs.Common.{majority, flip_if, Column, run, step, settle, settle_lines}
+use Rattle.row_alloc.proofs.Common.{sense_lines, lines_of, bit, drive, plain}
+use Rattle.std.specs.Prelude.{◌≡◌, ℕ, Bool, true, false, List, [], ◌∷◌, refl}
 use Rattle.dram_model.specs.declared.address.Addr.{Addr}
 use Rattle.dram_model.specs.declared.address.Addr.TheVariants.{B as AddrB, D as AddrD}
-use Rattle.dram_model.specs.declared.address.Cell.{Cell}
-use Rattle.dram_model.specs.declared.address.Cell.TheVariants.{T, Dcc, C as CellC, D}
-use Rattle.dram_model.specs.declared.address.Line.{Line}
+use Rattle.dram_model.specs.declared.address.Cell.TheVariants.{C as CellC}
 use Rattle.dram_model.specs.declared.address.Command.TheVariants.{Aap as RowAap}
-use Rattle.bit_rows.specs.Bits.{majority, flip_if}
-use Rattle.dram_model.specs.Column.{Column, run, step, settle, settle_lines, sense_lines, lines_of}
-use Rattle.dram_model.specs.Column.{bit, drive, plain}
 use Rattle.dram_model.proofs.ColumnLaws.{step-is-quick, activate_lines}
 
 -- a row that commands with B rows leave

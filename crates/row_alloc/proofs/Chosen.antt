@@ -1,10 +1,9 @@
 -- What the first of sequences that serves tells of the others
-use Rattle.std.proofs.Common.{◌≡◌, ℕ, zero, suc, ◌+◌, ◌<◌, ◌≤◌, ◌&&◌, Bool, true, false, nat_le, List}
-use Rattle.std.proofs.Common.{[], ◌∷◌, length, get_or, refl, arith, inl, inr, subst}
-use Rattle.std.specs.List.{list_all}
-use Rattle.std.proofs.lemmas.Bool.{cases_lt, and_parts, leb-true}
-use Rattle.std.proofs.lemmas.List.Folds.{list_all_at}
-use Rattle.mig_graph.specs.Graph.{Graph}
+use Rattle.row_alloc.proofs.Common.{◌≡◌, ℕ, zero, suc, ◌+◌, ◌<◌, ◌≤◌, ◌&&◌, Bool, true, false, List}
+use Rattle.row_alloc.proofs.Common.{[], ◌∷◌, length, get_or, refl, arith, inl, inr, subst, list_all}
+use Rattle.row_alloc.proofs.Common.{cases_lt, list_all_at, Graph}
+use Rattle.std.proofs.Common.{nat_le}
+use Rattle.std.proofs.lemmas.Bool.{and_parts, leb-true}
 use Rattle.row_alloc.specs.declared.body.BodyCmd.{BodyCmd}
 use Rattle.row_alloc.specs.declared.body.OutRow.{OutRow}
 use Rattle.row_alloc.specs.declared.body.Held.{Held}

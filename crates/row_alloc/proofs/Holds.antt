@@ -1,21 +1,14 @@
 -- Where a literal is read from holds its value, and a piece's commands put it into a spill row
-use Rattle.std.proofs.Common.{◌≡◌, ◌≢◌, ◌⊎◌, ℕ, zero, suc, ◌+◌, ◌-◌, ◌<◌, ◌≤◌, Bool, true, false}
-use Rattle.std.proofs.Common.{not, ◌&&◌, List, [], ◌∷◌, ◌++◌, refl, sym, ◌∙◌, ap, arith, eq-eqb}
-use Rattle.std.proofs.Common.{inl, inr}
-use Rattle.std.specs.Prelude.{◌==◌, if◌then◌else◌, map}
-use Rattle.std.proofs.lemmas.Bool.{ne_eqb}
-use Rattle.std.proofs.lemmas.Bool.Decides.{nat_tests}
+use Rattle.row_alloc.proofs.Common.{◌≡◌, ◌≢◌, ◌⊎◌, ℕ, zero, suc, ◌+◌, ◌-◌, ◌<◌, ◌≤◌, Bool, true}
+use Rattle.row_alloc.proofs.Common.{false, ◌&&◌, List, [], ◌∷◌, ◌++◌, refl, sym, ◌∙◌, ap, arith}
+use Rattle.row_alloc.proofs.Common.{eq-eqb, inl, inr, ◌==◌, if◌then◌else◌, map, ne_eqb, nat_tests}
+use Rattle.row_alloc.proofs.Common.{flip_if, bit_number, Cell, Dcc, D, Column, run, lines_of, bit}
+use Rattle.row_alloc.proofs.Common.{plain, Lit, Node, is_complemented, IsLower, node_value, Graph}
+use Rattle.row_alloc.proofs.Common.{value, values, start, values-below}
+use Rattle.std.proofs.Common.{not}
 use Rattle.std.proofs.lemmas.List.{map-append}
-use Rattle.bit_rows.specs.Bits.{flip_if, bit_number}
-use Rattle.dram_model.specs.declared.address.Cell.{Cell}
-use Rattle.dram_model.specs.declared.address.Cell.TheVariants.{Dcc, C as CellC, D}
-use Rattle.dram_model.specs.Column.{Column, run, lines_of, bit, plain}
+use Rattle.dram_model.specs.declared.address.Cell.TheVariants.{C as CellC}
 use Rattle.dram_model.proofs.ColumnLaws.{run-append}
-use Rattle.mig_graph.specs.declared.Lit.{Lit}
-use Rattle.mig_graph.specs.declared.Node.{Node}
-use Rattle.mig_graph.specs.Literals.{is_complemented, IsLower, node_value}
-use Rattle.mig_graph.specs.Graph.{Graph, value, values, start}
-use Rattle.mig_graph.proofs.Laws.{values-below}
 use Rattle.row_alloc.specs.declared.body.BodyRef.{BodyRef}
 use Rattle.row_alloc.specs.declared.body.BodyRef.TheVariants.{B, C, In, Spill}
 use Rattle.row_alloc.specs.declared.body.BodyCmd.{BodyCmd}

@@ -1,12 +1,10 @@
 -- The plain body reads each input before it writes an output
-use Rattle.std.proofs.Common.{◌≡◌, ◌≢◌, ℕ, ◌-◌, ◌<◌, ◌≤◌, true, false, not, List, [], ◌∷◌}
-use Rattle.std.proofs.Common.{◌++◌, length, get_or, refl, sym, ◌∙◌, ap, arith, inl, inr}
-use Rattle.std.proofs.Common.{append_assoc, length-append}
-use Rattle.std.proofs.lemmas.Bool.{cases_lt}
+use Rattle.row_alloc.proofs.Common.{◌≡◌, ◌≢◌, ℕ, ◌-◌, ◌<◌, ◌≤◌, true, false, List, [], ◌∷◌, ◌++◌}
+use Rattle.row_alloc.proofs.Common.{length, get_or, refl, sym, ◌∙◌, ap, arith, inl, inr}
+use Rattle.row_alloc.proofs.Common.{length-append, cases_lt, list_all-append, list_all_at, Lit}
+use Rattle.row_alloc.proofs.Common.{Node}
+use Rattle.std.proofs.Common.{not, append_assoc}
 use Rattle.std.proofs.lemmas.List.{append-nil, get_or_append_left, get_or-append_right}
-use Rattle.std.proofs.lemmas.List.Folds.{list_all-append, list_all_at}
-use Rattle.mig_graph.specs.declared.Lit.{Lit}
-use Rattle.mig_graph.specs.declared.Node.{Node}
 use Rattle.row_alloc.specs.declared.body.BodyRef.{BodyRef}
 use Rattle.row_alloc.specs.declared.body.BodyRef.TheVariants.{B, In, Out}
 use Rattle.row_alloc.specs.declared.body.BodyCmd.{BodyCmd}

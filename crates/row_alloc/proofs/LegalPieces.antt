@@ -1,13 +1,7 @@
 -- The plain body's commands are legal
-use Rattle.std.proofs.Common.{◌≡◌, ℕ, ◌+◌, ◌-◌, ◌<◌, ◌≤◌, Bool, true, false, ◌&&◌, List, [], ◌∷◌}
-use Rattle.std.proofs.Common.{◌++◌, refl, ◌∙◌, arith, inl, inr}
-use Rattle.std.specs.Prelude.{nat_lt}
-use Rattle.std.proofs.lemmas.Bool.Decides.{nat_tests}
-use Rattle.std.proofs.lemmas.List.Folds.{list_all-append}
-use Rattle.bit_rows.specs.Bits.{bit_number}
-use Rattle.mig_graph.specs.declared.Lit.{Lit}
-use Rattle.mig_graph.specs.declared.Node.{Node}
-use Rattle.mig_graph.specs.Literals.{IsLower}
+use Rattle.row_alloc.proofs.Common.{◌≡◌, ℕ, ◌+◌, ◌-◌, ◌<◌, ◌≤◌, Bool, true, false, ◌&&◌, List, []}
+use Rattle.row_alloc.proofs.Common.{◌∷◌, ◌++◌, refl, ◌∙◌, arith, inl, inr, nat_lt, nat_tests}
+use Rattle.row_alloc.proofs.Common.{list_all-append, bit_number, Lit, Node, IsLower}
 use Rattle.row_alloc.specs.declared.body.BodyRef.TheVariants.{Out, Spill}
 use Rattle.row_alloc.specs.declared.body.BodyCmd.{BodyCmd}
 use Rattle.row_alloc.specs.declared.body.BodyCmd.TheVariants.{Aap}

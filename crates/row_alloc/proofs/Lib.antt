@@ -1,3 +1,4 @@
+pub mod Common
 pub mod Written
 pub mod Activations
 pub mod Holds

@@ -1,6 +1,6 @@
 -- The symbolic run's answer, as a test
-use Rattle.std.proofs.Common.{◌≡◌, Bool, true, false, ap, Option, Some, None}
-use Rattle.mig_graph.specs.declared.Lit.{Lit}
+use Rattle.row_alloc.proofs.Common.{◌≡◌, Bool, true, false, ap, Some, None, Lit}
+use Rattle.std.proofs.Common.{Option}
 use Rattle.row_alloc.specs.Symbolic.{lit_eq}
 use Rattle.row_alloc.proofs.Sound.{lit-eq-true}
 

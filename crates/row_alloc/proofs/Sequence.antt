@@ -1,11 +1,8 @@
 -- The plain body's commands, one piece after another
-use Rattle.std.proofs.Common.{◌≡◌, ℕ, ◌+◌, ◌<◌, false, List, [], ◌∷◌, ◌++◌, length, refl, sym, ◌∙◌}
-use Rattle.std.proofs.Common.{arith, subst}
-use Rattle.dram_model.specs.Column.{Column}
-use Rattle.mig_graph.specs.declared.Node.{Node}
-use Rattle.mig_graph.specs.Literals.{is_complemented, IsLower, IsAnyOrder, node_value}
-use Rattle.mig_graph.specs.Graph.{Graph, value, values, node_at, IsGraph}
-use Rattle.mig_graph.proofs.Laws.{value-node, any-order}
+use Rattle.row_alloc.proofs.Common.{◌≡◌, ℕ, ◌+◌, ◌<◌, false, List, [], ◌∷◌, ◌++◌, length, refl, sym}
+use Rattle.row_alloc.proofs.Common.{◌∙◌, arith, subst, Column, Node, is_complemented, IsLower}
+use Rattle.row_alloc.proofs.Common.{IsAnyOrder, node_value, Graph, value, values, node_at, IsGraph}
+use Rattle.row_alloc.proofs.Common.{value-node, any-order}
 use Rattle.row_alloc.specs.declared.body.BodyRef.TheVariants.{Out, Spill}
 use Rattle.row_alloc.specs.declared.body.BodyCmd.{BodyCmd}
 use Rattle.row_alloc.specs.declared.body.BodyCmd.TheVariants.{Aap}

@@ -1,24 +1,20 @@
 -- A cell that holds a literal has its value
-use Rattle.std.specs.Prelude.{◌≡◌, ℕ, suc, ◌+◌, ◌<◌, ◌≤◌, ◌==◌, Bool, true, false, not, ◌&&◌, ◌||◌}
-use Rattle.std.specs.Prelude.{if◌then◌else◌, List, [], ◌∷◌, length, map, slice_index_or, Option}
-use Rattle.std.specs.Prelude.{Some, None, refl}
-use Rattle.std.proofs.Common.{◌⊎◌, sym, ◌∙◌, ap, arith, subst, inl, inr, drop, drop-cons, add-one}
-use Rattle.std.proofs.lemmas.Grind.{common_steps}
-use Rattle.std.proofs.lemmas.Bool.{eqb-true}
+use Rattle.row_alloc.proofs.Common.{◌==◌, not, if◌then◌else◌, map, slice_index_or, Option, ◌⊎◌, sym}
+use Rattle.row_alloc.proofs.Common.{◌∙◌, ap, arith, subst, inl, inr, drop, drop-cons, add-one}
+use Rattle.row_alloc.proofs.Common.{common_steps, eqb-true, Cell, T, Dcc, D, Line, majority}
+use Rattle.row_alloc.proofs.Common.{flip_if, Column, lines_of, is_written, bit, read, sense_lines}
+use Rattle.row_alloc.proofs.Common.{settle_lines, drive, sense, settle, step, run, Lit, Node}
+use Rattle.row_alloc.proofs.Common.{node_value, IsAnyOrder, Graph, value, values, IsGraph, node_at}
+use Rattle.row_alloc.proofs.Common.{start, value-node, values-below, any-order}
+use Rattle.std.specs.Prelude.{◌≡◌, ℕ, suc, ◌+◌, ◌<◌, ◌≤◌, Bool, true, false, ◌&&◌, ◌||◌, List, []}
+use Rattle.std.specs.Prelude.{◌∷◌, length, Some, None, refl}
 use mathlib.Core.Bool.{beq}
-use Rattle.dram_model.specs.declared.address.Cell.{Cell}
-use Rattle.dram_model.specs.declared.address.Cell.TheVariants.{T, Dcc, C, D}
-use Rattle.dram_model.specs.declared.address.Line.{Line}
+use Rattle.dram_model.specs.declared.address.Cell.TheVariants.{C}
 use Rattle.dram_model.specs.declared.address.Command.{Command}
 use Rattle.dram_model.specs.declared.address.Command.TheVariants.{Ap, Aap}
-use Rattle.bit_rows.specs.Bits.{majority, flip_if}
-use Rattle.dram_model.specs.Column.{Column, lines_of, is_written, bit, read, sense_lines}
-use Rattle.dram_model.specs.Column.{settle_lines, drive, sense, settle, step, run}
-use Rattle.mig_graph.specs.declared.Lit.{Lit}
-use Rattle.mig_graph.specs.declared.Node.{Node}
-use Rattle.mig_graph.specs.Literals.{complement, node_of, node_value, IsAnyOrder}
-use Rattle.mig_graph.specs.Graph.{Graph, value, values, IsGraph, node_at, no_node, start}
-use Rattle.mig_graph.proofs.Laws.{flip-not, value-node, values-below, any-order, complemented-value}
+use Rattle.mig_graph.specs.Literals.{complement, node_of}
+use Rattle.mig_graph.specs.Graph.{no_node}
+use Rattle.mig_graph.proofs.Laws.{flip-not, complemented-value}
 use Rattle.row_alloc.specs.declared.body.BodyCmd.{BodyCmd}
 use Rattle.row_alloc.specs.Rows.{Rows, bound}
 use Rattle.row_alloc.specs.Symbolic.{Symbols, held, complemented_option, sym_read, lit_eq}

@@ -1,13 +1,8 @@
 -- Each piece of the plain body keeps what is true of the column so far
-use Rattle.std.proofs.Common.{◌≡◌, ℕ, ◌+◌, ◌<◌, false, List, [], ◌∷◌, length, refl, sym, ◌∙◌, arith}
-use Rattle.std.proofs.Common.{inl, inr}
-use Rattle.std.proofs.lemmas.Bool.{cases_lt}
+use Rattle.row_alloc.proofs.Common.{◌≡◌, ℕ, ◌+◌, ◌<◌, false, List, [], ◌∷◌, length, refl, sym, ◌∙◌}
+use Rattle.row_alloc.proofs.Common.{arith, inl, inr, cases_lt, D, Column, Node, is_complemented}
+use Rattle.row_alloc.proofs.Common.{IsLower, node_value, Graph, value, values}
 use Rattle.dram_model.specs.declared.address.Addr.TheVariants.{D as AddrD}
-use Rattle.dram_model.specs.declared.address.Cell.TheVariants.{D}
-use Rattle.dram_model.specs.Column.{Column}
-use Rattle.mig_graph.specs.declared.Node.{Node}
-use Rattle.mig_graph.specs.Literals.{is_complemented, IsLower, node_value}
-use Rattle.mig_graph.specs.Graph.{Graph, value, values}
 use Rattle.row_alloc.specs.declared.body.BodyRef.TheVariants.{Out, Spill}
 use Rattle.row_alloc.specs.declared.body.BodyCmd.{BodyCmd}
 use Rattle.row_alloc.specs.declared.body.BodyCmd.TheVariants.{Aap}

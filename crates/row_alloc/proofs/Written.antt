@@ -1,9 +1,6 @@
 -- The end of the plain body: outputs written from spill rows, after all reads of inputs
-use Rattle.std.specs.Prelude.{◌≡◌, ◌≢◌, ℕ, ◌+◌, ◌<◌, Bool, true, false, not, List, ◌++◌, length}
-use Rattle.std.specs.List.{list_all}
-use Rattle.dram_model.specs.declared.address.Cell.TheVariants.{D}
-use Rattle.dram_model.specs.Column.{Column}
-use Rattle.mig_graph.specs.Graph.{Graph, value}
+use Rattle.row_alloc.proofs.Common.{not, list_all, D, Column, Graph, value}
+use Rattle.std.specs.Prelude.{◌≡◌, ◌≢◌, ℕ, ◌+◌, ◌<◌, Bool, true, false, List, ◌++◌, length}
 use Rattle.row_alloc.specs.declared.body.BodyRef.{BodyRef}
 use Rattle.row_alloc.specs.declared.body.BodyRef.TheVariants.{In}
 use Rattle.row_alloc.specs.declared.body.BodyCmd.{BodyCmd}

@@ -1,4 +1,5 @@
 -- Rows that the first commands of a wave leave.
+use Rattle.std.proofs.lemmas.Bool.{or_parts}
 use Rattle.std.proofs.Common.{◌≡◌, ℕ, zero, suc, ◌+◌, ◌-◌, ◌<◌, ◌≤◌, Bool, true, false, ◌&&◌, ◌||◌}
 use Rattle.std.proofs.Common.{cond, ltb, List, [], ◌∷◌, ◌++◌, map, length, take, Option, Some, None}
 use Rattle.std.proofs.Common.{refl, sym, ◌∙◌, ap, subst, inl, inr, arith}
@@ -36,7 +37,6 @@ use Rattle.machine_model.specs.Steps.{Held, base_for, binding, bound_at, dsts_of
 use Rattle.machine_model.specs.Steps.{is_beside, is_touched, table_after, table_of, touches}
 use Rattle.machine_model.proofs.Bbops.{binding_fits}
 use Rattle.machine_model.proofs.Kept.{not_touched}
-use Rattle.machine_model.proofs.Merged.{or_false}
 use Rattle.machine_model.proofs.Facts.{good}
 use Rattle.machine_model.proofs.InOrder.{bbop_table}
 use Rattle.machine_model.proofs.KeptAll.{entry_holds, untouched_stays}
@@ -176,7 +176,7 @@ wave_leaves : (g : Geometry) (operations : Routines) → FirstKeepAll operations
 wave_leaves g operations keeps [] bbops table bank row t out = none_leave row
 wave_leaves g operations keeps (Bbop op dst srcs count n ∷ wave) bbops table bank row t out =
     let instr : Instruction = Bbop op dst srcs count n in
-    let parts = or_false (is_touched g operations table instr bank row)
+    let parts = or_parts (is_touched g operations table instr bank row)
     (is_touched_by g operations (table_after g operations table instr) wave bank row) out in
     let others = subst (λ (x : List Named). is_touched_by g operations x wave bank row ≡ false)
     (bbop_table g operations table instr bbops.0) parts.1 in

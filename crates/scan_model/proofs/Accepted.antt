@@ -1,20 +1,19 @@
 -- Accepted are the spellings of queries within the limits.
-use Rattle.std.proofs.Common.{◌≡◌, ℕ, ◌+◌, ◌^◌, ◌<◌, ◌≤◌, Bool, true, false, ◌&&◌, leb, ltb}
-use Rattle.std.proofs.Common.{List, [], ◌∷◌, ◌++◌, drop, Option, Some, None, Result, Ok, Err}
-use Rattle.std.proofs.Common.{refl, sym, ◌∙◌, ap, arith, ◌⊎◌, inl, inr}
+use Rattle.scan_model.proofs.Common.{◌≡◌, ℕ, ◌+◌, ◌^◌, ◌<◌, ◌≤◌, Bool, true, false, ◌&&◌, leb, ltb}
+use Rattle.scan_model.proofs.Common.{List, [], ◌∷◌, ◌++◌, drop, Option, Some, None, Result, refl}
+use Rattle.scan_model.proofs.Common.{sym, ◌∙◌, ap, arith, ◌⊎◌, inl, inr, nat_tests, Item, Lexeme}
+use Rattle.scan_model.proofs.Common.{Bad, fits_name, Breach, all_seen, syntax_is_the_grammars}
+use Rattle.scan_model.proofs.Common.{WIDTH_MAX}
+use Rattle.std.proofs.lemmas.Bool.{and_parts}
+use Rattle.std.proofs.Common.{Ok, Err}
 use Rattle.std.specs.Prelude.{◌↔◌}
-use Rattle.std.proofs.lemmas.Bool.Decides.{nat_tests}
-use Rattle.text_lex.specs.Lexical.{Item, Lexeme, Whole as Read, Bad}
-use Rattle.text_lex.specs.Spelled.{fits_name}
-use Rattle.grammar.specs.declared.Breach.{Breach}
-use Rattle.grammar.specs.Machine as machine
+use Rattle.text_lex.specs.Lexical.{Whole as Read}
 use Rattle.grammar.specs.Laws.{BreaksRule, GrammarFinds, Broken, Text, CutShort, Wrong, Strange}
-use Rattle.grammar.specs.Laws.{all_seen, whole}
-use Rattle.grammar.proofs.Found.{syntax_is_the_grammars}
+use Rattle.grammar.specs.Laws.{whole}
+use Rattle.grammar.specs.Machine as machine
 use Rattle.scan_model.specs.declared.CmpOp.{CmpOp}
 use Rattle.scan_model.specs.declared.QueryKind.{QueryKind}
 use Rattle.scan_model.specs.declared.QueryKind.TheVariants as kind
-use Rattle.bit_rows.specs.declared.TheConstants.{WIDTH_MAX}
 use Rattle.scan_model.specs.Queries.{Operand, Whole, Bit, Bits, place_of, IsPart}
 use Rattle.scan_model.specs.Queries.{Query, Compare, Negate, Both, Either, size}
 use Rattle.scan_model.specs.Texts.{Word, Name, Number, Closes, Comma, Stranger}
@@ -77,10 +76,6 @@ meets : (b : Bool) (s : Begun) (k : QueryKind) (front : List Wanted)
     → on_pass (machine.with_rules kind.Syntax (Some front) (checked b s k)) go ≡ true
 meets b s k front go e h = rw e h
 
-and_true : (a b : Bool) → (a && b) ≡ true → (a ≡ true) × (b ≡ true)
-and_true true b h = (refl, h)
-and_true false b h = cc
-
 most_true : (x y : ℕ) → x ≤ y → leb x y ≡ true
 most_true x y h = grind (arith, nat_tests)
 
@@ -107,7 +102,7 @@ operand_met (Bits x low high) wanted s rest h =
     let n = met (fits_name x) s kind.BadName (AtName ∷ []) _ h in
     let l = met (ltb low WIDTH_MAX) s kind.BadNumber (AtLow low ∷ []) _ n.1 in
     let m = met (ltb low high && leb high WIDTH_MAX) s kind.BadNumber (AtHigh ∷ []) _ l.1 in
-    let b = and_true (ltb low high) (leb high WIDTH_MAX) m.0 in
+    let b = and_parts (ltb low high) (leb high WIDTH_MAX) m.0 in
     (n.0, (true_below low high b.0, at_most high WIDTH_MAX b.1), m.1)
 
 operand_meets : (o : Operand) (wanted : List Wanted) (s : Begun) (rest : List Word)
@@ -188,7 +183,7 @@ query_met (Compare op o v) wanted s rest h =
     let n = met (fits t) t kind.TooMany (wanted_after (Compares op)) _ g in
     let p = operand_met o (Close ∷ wanted) t (Number v ∷ Closes ∷ rest) n.1 in
     let b = met (ltb v (2 ^ 128)) t kind.BadNumber [] _ p.2 in
-    let f = and_true (leb t.nodes 64) (leb t.tests 32) n.0 in (
+    let f = and_parts (leb t.nodes 64) (leb t.tests 32) n.0 in (
       record {
         written = (p.0, p.1, true_below v (2 ^ 128) b.0);
         nodes = at_most (s.nodes + 1) 64 f.0;

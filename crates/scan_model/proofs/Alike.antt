@@ -1,34 +1,26 @@
 -- Programs that do the operations of scans refuse and answer alike.
-use Rattle.std.proofs.Common.{◌≡◌, ℕ, ◌+◌, ◌<◌, ◌≤◌, List, [], ◌∷◌, ◌++◌, Option, Some, None, refl}
-use Rattle.std.proofs.Common.{sym, ◌∙◌, ap, subst}
-use Rattle.std.specs.Prelude.{not, ◌==◌, is_none, length}
-use Rattle.std.specs.List.{AllByRecursion}
-use Rattle.std.specs.Option.{option_map}
-use Rattle.bit_rows.specs.declared.TheConstants.{WIDTH_MAX}
-use Rattle.dram_model.specs.declared.geometry.Geometry.{Geometry}
+use Rattle.scan_model.proofs.Common.{◌≡◌, ℕ, ◌+◌, ◌<◌, ◌≤◌, List, [], ◌∷◌, ◌++◌, Option, Some, None}
+use Rattle.scan_model.proofs.Common.{refl, sym, ◌∙◌, ap, subst, is_none, AllByRecursion, option_map}
+use Rattle.scan_model.proofs.Common.{WIDTH_MAX, Geometry, Shape, Microprogram, need, HasEnded}
+use Rattle.scan_model.proofs.Common.{trace, TextOp, ImplementsAll, free, Named, limit_of}
+use Rattle.scan_model.proofs.Common.{objects_of, Place, Instruction, Init, Bbop, Fill, Free, Why}
+use Rattle.scan_model.proofs.Common.{Program, Routines, entry_named, routines_of, segments}
+use Rattle.scan_model.proofs.Common.{text_op_named, trace_of, first, refusal, rows_of, walks_badly}
+use Rattle.scan_model.proofs.Common.{when, table_after, table_at_end, IsPlain, Matched, both}
+use Rattle.scan_model.proofs.Common.{matched}
+use Rattle.std.specs.Prelude.{not, ◌==◌, length}
 use Rattle.uprog_code.specs.declared.walker.Counts.{Counts}
-use Rattle.uprog_code.specs.Shape.{Shape, Microprogram, need, results}
-use Rattle.uprog_code.specs.Machine.{HasEnded, trace}
+use Rattle.uprog_code.specs.Shape.{results}
 use Rattle.uprog_code.specs.Count.{counts_of}
-use Rattle.uprog_code.specs.Texts.{TextOp, EntryDoes, ImplementsAll}
-use Rattle.object_alloc.specs.Free.{free}
-use Rattle.object_alloc.specs.Listed.{Named, limit_of, objects_of}
-use Rattle.bbop_isa.specs.declared.instr.Place.{Place}
-use Rattle.bbop_isa.specs.Forms.{Instruction}
-use Rattle.bbop_isa.specs.Forms.{Init, Bbop, Load, Fill, Print, Free, Order}
+use Rattle.uprog_code.specs.Texts.{EntryDoes}
+use Rattle.bbop_isa.specs.Forms.{Load, Print, Order}
 use Rattle.machine_model.specs.declared.Reply.{Reply}
-use Rattle.machine_model.specs.declared.Why.{Why}
+use Rattle.machine_model.specs.Routines.{Routine}
+use Rattle.machine_model.specs.Refusals.{bbop_refusal, operand_conditions}
+use Rattle.machine_model.specs.Steps.{counts_for, if_done, issues_at, reply_by, reply_to, tabled}
+use Rattle.machine_model.specs.Steps.{times}
+use Rattle.machine_model.specs.Script.{replies, sum_of}
 use Rattle.machine_model.specs.declared.Why.TheVariants as why
-use Rattle.machine_model.specs.Routines.{Program, Routine, Routines, entry_named, routines_of}
-use Rattle.machine_model.specs.Columns.{segments}
-use Rattle.machine_model.specs.Routines.{text_op_named, trace_of}
-use Rattle.machine_model.specs.Refusals.{bbop_refusal, first, operand_conditions, refusal}
-use Rattle.machine_model.specs.Refusals.{rows_of, walks_badly, when}
-use Rattle.machine_model.specs.Steps.{counts_for, if_done, issues_at, reply_by, reply_to}
-use Rattle.machine_model.specs.Steps.{table_after, tabled, times}
-use Rattle.machine_model.specs.Script.{replies, sum_of, table_at_end}
-use Rattle.machine_model.specs.Agrees.{IsPlain}
-use Rattle.machine_model.proofs.Texts.{Matched, both, matched}
 use Rattle.scan_model.specs.declared.ScanWhy.{ScanWhy}
 use Rattle.scan_model.specs.Queries.{Node, nodes_of}
 use Rattle.scan_model.specs.Names.{free_name}

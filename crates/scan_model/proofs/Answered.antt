@@ -1,25 +1,16 @@
 -- What a scan answers, on tables and banks alone.
-use Rattle.std.proofs.Common.{◌≡◌, ℕ, zero, suc, ◌<◌, ◌≤◌, ◌==◌, Bool, List, [], ◌∷◌, ◌++◌, map}
-use Rattle.std.proofs.Common.{get_or, take, Option, Some, None, refl, sym, ◌∙◌, ap, subst, arith}
-use Rattle.std.specs.Prelude.{All, count_by}
-use Rattle.std.specs.List.{AllByRecursion, range_with_len, find}
-use Rattle.std.specs.Option.{option_map, unwrap_or}
-use Rattle.std.specs.Str.{bytes_eq}
+use Rattle.scan_model.proofs.Common.{◌≡◌, ℕ, zero, suc, ◌<◌, ◌≤◌, ◌==◌, Bool, List, [], ◌∷◌, ◌++◌}
+use Rattle.scan_model.proofs.Common.{map, get_or, Option, Some, None, refl, sym, ◌∙◌, ap, subst}
+use Rattle.scan_model.proofs.Common.{arith, All, count_by, AllByRecursion, range_with_len, find}
+use Rattle.scan_model.proofs.Common.{option_map, unwrap_or, bytes_eq, Geometry, Column, Banks}
+use Rattle.scan_model.proofs.Common.{number, below, column_count, Named, limit_of, IsObject}
+use Rattle.scan_model.proofs.Common.{segments, columns, object_size, Routines, routines_of, nothing}
+use Rattle.scan_model.proofs.Common.{Held, table_of, Agrees, IsPlain, table_at_end, banks_at_end}
+use Rattle.scan_model.proofs.Common.{find_map}
+use Rattle.std.proofs.Common.{take}
 use mathlib.Core.Path.{fun_ext}
 use Rattle.std.proofs.lemmas.Grind.{div_ceil_times}
-use Rattle.dram_model.specs.declared.geometry.Geometry.{Geometry}
-use Rattle.dram_model.specs.Column.{Column}
-use Rattle.dram_model.specs.Chip.{Banks}
-use Rattle.dram_model.specs.Elements.{number, below, column_count}
-use Rattle.object_alloc.specs.Listed.{Named, IsTable, limit_of}
-use Rattle.object_alloc.specs.Spelling.{IsObject}
-use Rattle.machine_model.specs.Columns.{segments, columns, object_size}
-use Rattle.machine_model.specs.Routines.{Routines, routines_of}
-use Rattle.machine_model.specs.Refusals.{nothing}
-use Rattle.machine_model.specs.Steps.{Held, table_of}
-use Rattle.machine_model.specs.Agrees.{Agrees, IsPlain}
-use Rattle.machine_model.specs.Script.{table_at_end, banks_at_end}
-use Rattle.machine_model.proofs.Places.{find_map}
+use Rattle.object_alloc.specs.Listed.{IsTable}
 use Rattle.machine_model.proofs.Makes.{few_banks}
 use Rattle.scan_model.specs.Queries.{Query, matches, size, nodes_of}
 use Rattle.scan_model.specs.Checks.{checked}

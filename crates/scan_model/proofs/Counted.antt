@@ -1,16 +1,8 @@
 -- A query's instructions move no rows, and each is a piece of its own.
-use Rattle.std.proofs.Common.{◌≡◌, ℕ, ◌+◌, cond, List, [], ◌∷◌, ◌++◌, map, Option, Some, None}
-use Rattle.std.proofs.Common.{refl, sym, ◌∙◌, ap, arith}
-use Rattle.std.specs.Prelude.{is_none}
-use Rattle.std.specs.List.{AllByRecursion}
-use Rattle.std.proofs.lemmas.List.{map-append}
-use Rattle.dram_model.specs.declared.geometry.Geometry.{Geometry}
-use Rattle.object_alloc.specs.Listed.{Named}
-use Rattle.bbop_isa.specs.Forms.{Instruction}
-use Rattle.machine_model.specs.declared.Why.{Why}
-use Rattle.machine_model.specs.Routines.{Routines}
-use Rattle.machine_model.specs.Refusals.{refusal}
-use Rattle.machine_model.specs.Steps.{table_after}
+use Rattle.scan_model.proofs.Common.{◌≡◌, ℕ, ◌+◌, cond, List, [], ◌∷◌, ◌++◌, map, Option, Some}
+use Rattle.scan_model.proofs.Common.{None, refl, sym, ◌∙◌, ap, arith, is_none, AllByRecursion}
+use Rattle.scan_model.proofs.Common.{map-append, Geometry, Named, Instruction, Why, Routines}
+use Rattle.scan_model.proofs.Common.{refusal, table_after}
 use Rattle.machine_model.specs.Script.{sum_done, rows_loaded, rows_printed}
 use Rattle.machine_model.specs.Pieces.{pieces, piece_of}
 use Rattle.scan_model.specs.Queries.{Node, Test, Not, And, Or}

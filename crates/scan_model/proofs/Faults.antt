@@ -1,23 +1,18 @@
 -- Where a query's text breaks a rule other than the grammar's.
-use Rattle.std.proofs.Common.{◌≡◌, ℕ, suc, ◌+◌, ◌^◌, ◌≤◌, ◌⊎◌, Bool, true, false, ◌&&◌}
-use Rattle.std.proofs.Common.{cond, leb, ltb, List, [], ◌∷◌, ◌++◌, Option, Some, None, refl, sym}
-use Rattle.std.proofs.Common.{◌∙◌, ap, subst, arith, inl, inr, append-nil, Result}
-use Rattle.std.specs.Prelude.{Ok, Err, count_by, option_map, option_and_then, reverse, ◌||◌}
-use Rattle.std.specs.List.{AllByRecursion}
-use Rattle.bit_rows.specs.declared.TheConstants.{WIDTH_MAX}
-use Rattle.std.proofs.lemmas.Bool.Decides.{nat_tests}
-use Rattle.std.proofs.lemmas.List.Sums.{sum_by-cons}
+use Rattle.scan_model.proofs.Common.{◌≡◌, ℕ, suc, ◌+◌, ◌^◌, ◌≤◌, ◌⊎◌, Bool, true, false, ◌&&◌, cond}
+use Rattle.scan_model.proofs.Common.{leb, ltb, List, [], ◌∷◌, ◌++◌, Option, Some, None, refl, sym}
+use Rattle.scan_model.proofs.Common.{◌∙◌, ap, subst, arith, inl, inr, append-nil, Result, Err}
+use Rattle.scan_model.proofs.Common.{count_by, option_and_then, ◌||◌, AllByRecursion, WIDTH_MAX}
+use Rattle.scan_model.proofs.Common.{nat_tests, sum_by-cons, Item, Lexeme, Bad, fits_name, Breach}
+use Rattle.scan_model.proofs.Common.{allowed, all_seen}
+use Rattle.std.specs.Prelude.{Ok, option_map, reverse}
 use Rattle.std.proofs.lemmas.List.Sorted.{IsPermutation-reverse, sum_by-IsPermutation}
-use Rattle.text_lex.specs.Lexical.{Item, Lexeme, Bad}
-use Rattle.text_lex.specs.Lexical as lex
-use Rattle.text_lex.specs.Spelled.{fits_name}
-use Rattle.grammar.specs.declared.Breach.{Breach}
-use Rattle.grammar.specs.Machine as machine
-use Rattle.grammar.specs.Machine.{allowed}
-use Rattle.grammar.specs.Laws.{IsViable, all_seen}
-use Rattle.grammar.proofs.Walks.{RuleBroken, behind_reverse, first_decides, kept}
-use Rattle.grammar.proofs.Walks.{rule_broken, walk_allowed}
+use Rattle.grammar.specs.Laws.{IsViable}
+use Rattle.grammar.proofs.Walks.{RuleBroken, behind_reverse, first_decides, kept, rule_broken}
+use Rattle.grammar.proofs.Walks.{walk_allowed}
 use Rattle.grammar.proofs.Found.{allowed_split, good}
+use Rattle.text_lex.specs.Lexical as lex
+use Rattle.grammar.specs.Machine as machine
 use Rattle.scan_model.specs.declared.QueryKind.{QueryKind}
 use Rattle.scan_model.specs.declared.QueryKind.TheVariants as kind
 use Rattle.scan_model.specs.Texts.{Word, Name, Number, Opens, Closes, Comma, OpensBits, Colon}

@@ -1,20 +1,16 @@
 -- Names that are free: there are enough, and they differ.
-use Rattle.std.proofs.Common.{◌≡◌, ℕ, zero, suc, ◌+◌, ◌^◌, ◌<◌, ◌≤◌, Bool, true, false, not, ◌&&◌}
-use Rattle.std.proofs.Common.{cond, leb, List, [], ◌∷◌, map, length, get_or, drop, refl, sym, ◌∙◌}
-use Rattle.std.proofs.Common.{ap, subst, arith, inl, inr}
-use Rattle.std.specs.Prelude.{filter, decimal, ◌||◌}
-use Rattle.std.specs.List.{range_with_len}
-use Rattle.std.specs.Str.{bytes_eq}
+use Rattle.scan_model.proofs.Common.{◌≡◌, ℕ, zero, suc, ◌+◌, ◌^◌, ◌<◌, ◌≤◌, Bool, true, false, not}
+use Rattle.scan_model.proofs.Common.{◌&&◌, cond, leb, List, [], ◌∷◌, map, length, get_or, drop}
+use Rattle.scan_model.proofs.Common.{refl, sym, ◌∙◌, ap, subst, arith, inl, inr, filter, ◌||◌}
+use Rattle.scan_model.proofs.Common.{range_with_len, bytes_eq, nat_tests, fits_name, Named}
+use Rattle.scan_model.proofs.Common.{has_name, same_bytes, bytes_differ}
+use Rattle.std.proofs.lemmas.Bool.{and_from, or_right, cases_lt}
+use Rattle.std.specs.Prelude.{decimal}
 use Rattle.std.specs.Char.{is_ascii_digit, digit_value}
 use Rattle.std.specs.Str.Parse.{AllDigits}
 use Rattle.std.specs.List.{list_all}
-use Rattle.std.proofs.lemmas.Bool.Decides.{nat_tests}
 use Rattle.text_lex.specs.Bytes.{is_name_start, is_name_byte}
-use Rattle.text_lex.specs.Spelled.{fits_name}
 use Rattle.std.proofs.lemmas.Fmt.{decimal_injective, decimal_is_IsNumeral, length-decimal-le}
-use Rattle.std.proofs.lemmas.Bool.{cases_lt}
-use Rattle.object_alloc.specs.Listed.{Named, has_name}
-use Rattle.machine_model.proofs.Places.{same_bytes, bytes_differ}
 use Rattle.scan_model.specs.Names.{scan_name, free_among, free_name}
 use Rattle.scan_model.specs.Laws.{NamesAreFree, NamesAreCounted}
 
@@ -208,18 +204,10 @@ differ_by table j k few l m e =
 digit_byte : (c : ℕ) → digit_value c < 10 → is_ascii_digit c ≡ true
 digit_byte c h = grind (arith, nat_tests)
 
-or_true : (a b : Bool) → b ≡ true → (a || b) ≡ true
-or_true true b e = refl
-or_true false b e = e
-
-and_true : (a b : Bool) → a ≡ true → b ≡ true → (a && b) ≡ true
-and_true true b e f = f
-and_true false b e f = cc
-
 digits_fit : (cs : List ℕ) → AllDigits 10 cs → list_all is_name_byte cs ≡ true
 digits_fit [] all = refl
-digits_fit (c ∷ cs) all = and_true (is_name_byte c) (list_all is_name_byte cs)
-    (or_true (is_name_start c) (is_ascii_digit c) (digit_byte c all.0)) (digits_fit cs all.1)
+digits_fit (c ∷ cs) all = and_from (is_name_byte c) (list_all is_name_byte cs)
+    (or_right (is_name_start c) (is_ascii_digit c) (digit_byte c all.0)) (digits_fit cs all.1)
 
 at_most : (a b : ℕ) → a ≤ b → leb a b ≡ true
 at_most a b h = grind (arith, nat_tests)
@@ -229,7 +217,7 @@ pub scan_fits : (i : ℕ) → i < 1000 → fits_name (scan_name i) ≡ true
 scan_fits i l =
     let n = decimal_is_IsNumeral i (omega (arith, l)) in
     let long = length-decimal-le 3 i (omega arith) (omega (arith, l)) (omega (arith, l)) in
-    and_true (list_all is_name_byte (decimal i)) (leb (length (scan_name i)) 16)
+    and_from (list_all is_name_byte (decimal i)) (leb (length (scan_name i)) 16)
     (digits_fit (decimal i) n.0.1) (at_most (length (scan_name i)) 16 (omega (arith, long)))
 
 name_fits : (table : List Named) (k : ℕ) → length table ≤ 256 → k ≤ 64

@@ -1,15 +1,10 @@
 -- Going through a script from a state: an instruction is refused only for want of room, or the
 -- state at the end has a property.
-use Rattle.std.proofs.Common.{◌≡◌, ℕ, List, [], ◌∷◌, ◌++◌, Option, Some, None, refl, sym, ◌∙◌, ap}
-use Rattle.std.proofs.Common.{subst}
-use Rattle.dram_model.specs.declared.geometry.Geometry.{Geometry}
-use Rattle.object_alloc.specs.Listed.{Named}
-use Rattle.bbop_isa.specs.Forms.{Instruction}
-use Rattle.machine_model.specs.declared.Why.{Why}
-use Rattle.machine_model.specs.Routines.{Routines}
-use Rattle.machine_model.specs.Refusals.{refusal}
-use Rattle.machine_model.specs.Steps.{Held, table_of, words_after, table_after, worded}
-use Rattle.machine_model.specs.Script.{words_at_end, table_at_end}
+use Rattle.scan_model.proofs.Common.{◌≡◌, ℕ, List, [], ◌∷◌, ◌++◌, Option, Some, None, refl, sym}
+use Rattle.scan_model.proofs.Common.{◌∙◌, ap, subst, Geometry, Named, Instruction, Why, Routines}
+use Rattle.scan_model.proofs.Common.{refusal, Held, table_of, table_after, worded, table_at_end}
+use Rattle.machine_model.specs.Steps.{words_after}
+use Rattle.machine_model.specs.Script.{words_at_end}
 use Rattle.machine_model.proofs.Scripts.{table_step}
 use Rattle.scan_model.specs.Checks.{refused_in, or_else}
 use Rattle.scan_model.specs.Laws.{IsRoom}

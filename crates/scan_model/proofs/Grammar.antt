@@ -1,11 +1,9 @@
 -- The grammar of queries allows what spells them.
-use Rattle.std.proofs.Common.{◌≡◌, ℕ, zero, suc, ◌<◌, ◌≤◌, Bool, true, false, cond}
-use Rattle.std.proofs.Common.{List, [], ◌∷◌, ◌++◌, length, Option, Some, None}
-use Rattle.std.proofs.Common.{refl, sym, ◌∙◌, ap, subst, arith}
-use Rattle.std.specs.Prelude.{Err, codes, option_map, option_and_then}
-use Rattle.std.specs.Str.{bytes_eq}
-use Rattle.machine_model.proofs.Places.{same_bytes}
-use Rattle.grammar.specs.Machine.{allowed}
+use Rattle.scan_model.proofs.Common.{◌≡◌, ℕ, zero, suc, ◌<◌, ◌≤◌, Bool, true, false, cond, List, []}
+use Rattle.scan_model.proofs.Common.{◌∷◌, ◌++◌, length, Option, Some, None, refl, sym, ◌∙◌, ap}
+use Rattle.scan_model.proofs.Common.{subst, arith, Err, codes, option_and_then, bytes_eq}
+use Rattle.scan_model.proofs.Common.{same_bytes, allowed}
+use Rattle.std.specs.Prelude.{option_map}
 use Rattle.grammar.specs.Laws.{IsAccepted, IsOther}
 use Rattle.grammar.proofs.Complete.{Completes, is_the_grammar}
 use Rattle.grammar.proofs.Found.{Facts}

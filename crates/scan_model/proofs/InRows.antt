@@ -1,30 +1,15 @@
 -- A scan in the rows.
-use Rattle.std.proofs.Common.{◌≡◌, ℕ, zero, suc, ◌+◌, ◌^◌, ◌<◌, ◌≤◌, ◌==◌, Bool, true, false}
-use Rattle.std.proofs.Common.{cond, List, [], ◌∷◌, ◌++◌, map, length, get_or, None, refl, sym}
-use Rattle.std.proofs.Common.{◌∙◌, ap, subst, arith}
-use Rattle.std.specs.Prelude.{All, count_by}
-use Rattle.std.specs.List.{AllByRecursion, range_with_len}
-use Rattle.std.proofs.lemmas.List.{length-map, map-append}
-use Rattle.std.proofs.lemmas.List.Sums.{sum_by-cons}
-use Rattle.std.proofs.lemmas.List.FromFn.{take-map-range_with_len, length-range_with_len}
-use Rattle.std.proofs.lemmas.Nat.{pow_pos}
-use Rattle.bit_rows.specs.Bits.{bit_number}
+use Rattle.scan_model.proofs.Common.{◌≡◌, ℕ, zero, suc, ◌+◌, ◌^◌, ◌<◌, ◌≤◌, ◌==◌, Bool, true, false}
+use Rattle.scan_model.proofs.Common.{cond, List, [], ◌∷◌, ◌++◌, map, length, get_or, None, refl}
+use Rattle.scan_model.proofs.Common.{sym, ◌∙◌, ap, subst, arith, All, count_by, AllByRecursion}
+use Rattle.scan_model.proofs.Common.{range_with_len, length-map, map-append, sum_by-cons}
+use Rattle.scan_model.proofs.Common.{length-range_with_len, pow_pos, bit_number, Geometry, Column}
+use Rattle.scan_model.proofs.Common.{Banks, number, below, Object, Named, IsObject, segments}
+use Rattle.scan_model.proofs.Common.{columns, routines_of, meaning_in, object_named, rows_of, Held}
+use Rattle.scan_model.proofs.Common.{table_of, Agrees, IsPlain, IsWidth, banks_at_end, entry_of}
+use Rattle.std.proofs.lemmas.List.FromFn.{take-map-range_with_len}
 use Rattle.bit_rows.proofs.Words.{value-below}
-use Rattle.dram_model.specs.declared.geometry.Geometry.{Geometry}
 use Rattle.dram_model.specs.declared.address.Cell.TheVariants.{D}
-use Rattle.dram_model.specs.Column.{Column}
-use Rattle.dram_model.specs.Chip.{Banks}
-use Rattle.dram_model.specs.Elements.{number, below}
-use Rattle.object_alloc.specs.declared.table.Object.{Object}
-use Rattle.object_alloc.specs.Listed.{Named}
-use Rattle.object_alloc.specs.Spelling.{IsObject}
-use Rattle.machine_model.specs.Columns.{segments, columns}
-use Rattle.machine_model.specs.Routines.{routines_of, meaning_in}
-use Rattle.machine_model.specs.Refusals.{object_named, rows_of}
-use Rattle.machine_model.specs.Steps.{Held, table_of}
-use Rattle.machine_model.specs.Agrees.{Agrees, IsPlain, IsWidth}
-use Rattle.machine_model.specs.Script.{banks_at_end}
-use Rattle.machine_model.proofs.Places.{entry_of}
 use Rattle.machine_model.proofs.Whole.{text_gives_words}
 use Rattle.scan_model.specs.Queries.{Query, HasParts, Node, Test, Not, And, Or, matches, size}
 use Rattle.scan_model.specs.Queries.{nodes_of}

@@ -1,25 +1,20 @@
 -- The six operations of a scan, and a program that implements them.
-use Rattle.std.proofs.Common.{◌≡◌, ℕ, zero, suc, ◌+◌, ◌*◌, ◌/◌, ◌%◌, ◌^◌, ◌<◌, ◌==◌, Bool, true}
-use Rattle.std.proofs.Common.{false, not, ◌&&◌, List, [], ◌∷◌, Option, Some, None, refl, sym, ◌∙◌}
-use Rattle.std.proofs.Common.{ap, subst, arith}
-use Rattle.std.specs.Prelude.{codes, ◌||◌, nat_lt, nat_le}
+use Rattle.scan_model.proofs.Common.{◌≡◌, ℕ, zero, suc, ◌+◌, ◌*◌, ◌%◌, ◌^◌, ◌<◌, ◌==◌, Bool, true}
+use Rattle.scan_model.proofs.Common.{false, not, ◌&&◌, List, [], ◌∷◌, Option, Some, None, refl, sym}
+use Rattle.scan_model.proofs.Common.{◌∙◌, ap, subst, arith, codes, ◌||◌, nat_tests, Kind, Word, Bit}
+use Rattle.scan_model.proofs.Common.{Shape, Microprogram, HasEnded, trace, TextOp, ImplementsAll}
+use Rattle.scan_model.proofs.Common.{Program, routines_of, text_op_named, entry_named, trace_of}
+use Rattle.scan_model.proofs.Common.{meaning_in, walks_badly, Matched, both, matched}
+use Rattle.std.proofs.Common.{◌/◌}
+use Rattle.std.specs.Prelude.{nat_lt, nat_le}
 use Rattle.std.proofs.Math.Nat.{pow-succ'}
-use Rattle.std.proofs.lemmas.Bool.Decides.{nat_tests}
-use Rattle.bit_rows.specs.Bits as rows
-use Rattle.op_text.specs.declared.tree.Kind.{Kind}
-use Rattle.op_text.specs.declared.tree.Kind.TheVariants.{Word, Bit}
 use Rattle.op_text.specs.Values.{bit_number, value, bits}
-use Rattle.op_text.specs.declared.word_ops.WordOp.TheVariants as o
 use Rattle.op_text.specs.Meaning.{meaning}
-use Rattle.uprog_code.specs.Shape.{Shape, Microprogram}
-use Rattle.uprog_code.specs.Machine.{Trace, Ended, Stuck, HasEnded, trace}
-use Rattle.uprog_code.specs.Texts.{TextOp, ImplementsAll}
-use Rattle.machine_model.specs.Routines.{Program, routines_of, text_op_named, entry_named}
-use Rattle.machine_model.specs.Routines.{trace_of, meaning_in}
-use Rattle.machine_model.specs.Refusals.{walks_badly}
-use Rattle.machine_model.proofs.Texts.{Matched, both, matched}
+use Rattle.uprog_code.specs.Machine.{Trace, Ended, Stuck}
 use Rattle.op_text.specs.Rules.{breach_of}
 use Rattle.op_text.specs.Spelling.{MeetRules}
+use Rattle.bit_rows.specs.Bits as rows
+use Rattle.op_text.specs.declared.word_ops.WordOp.TheVariants as o
 use Rattle.scan_model.specs.Operations.{of_two_sources, of_one_source, scan_operations, scan_text}
 use Rattle.scan_model.specs.Laws.{Offers, OffersScan, MeansScan}
 

@@ -1,29 +1,17 @@
 -- The instructions of one node.
-use Rattle.std.proofs.Common.{◌≡◌, ◌≢◌, ℕ, zero, suc, ◌+◌, ◌*◌, ◌^◌, ◌<◌, ◌≤◌, Bool, false}
-use Rattle.std.proofs.Common.{not, List, [], ◌∷◌, ◌++◌, map, length, get_or, Option, Some, None}
-use Rattle.std.proofs.Common.{refl, sym, ◌∙◌, ap, subst, arith}
-use Rattle.std.specs.Prelude.{replicate, codes}
-use Rattle.std.specs.List.{range_with_len}
+use Rattle.scan_model.proofs.Common.{◌≡◌, ◌≢◌, ℕ, zero, suc, ◌+◌, ◌*◌, ◌^◌, ◌<◌, ◌≤◌, Bool, false}
+use Rattle.scan_model.proofs.Common.{not, List, [], ◌∷◌, ◌++◌, map, length, get_or, Option, Some}
+use Rattle.scan_model.proofs.Common.{None, refl, sym, ◌∙◌, ap, subst, arith, codes, range_with_len}
+use Rattle.scan_model.proofs.Common.{length-range_with_len, length-map, bit_number, WIDTH_MAX, Kind}
+use Rattle.scan_model.proofs.Common.{Word, Bit, Geometry, column_count, Object, Part, Place, Bbop}
+use Rattle.scan_model.proofs.Common.{Fill, Free, whole, IsWidth, object_size, cut, is_past, seen}
+use Rattle.scan_model.proofs.Common.{Routines, refusal, rows_of, Held, table_of, numbers_at}
+use Rattle.scan_model.proofs.Common.{with_results, worded}
+use Rattle.std.specs.Prelude.{replicate}
 use Rattle.std.specs.Int.{div_ceil}
-use Rattle.std.proofs.lemmas.List.FromFn.{get_or-map-range_with_len, length-range_with_len}
-use Rattle.std.proofs.lemmas.List.{get_or-replicate, length-map, length-replicate}
-use Rattle.bit_rows.specs.Bits.{bit_number}
-use Rattle.bit_rows.specs.declared.TheConstants.{WIDTH_MAX}
-use Rattle.op_text.specs.declared.tree.Kind.{Kind}
-use Rattle.op_text.specs.declared.tree.Kind.TheVariants.{Word, Bit}
-use Rattle.dram_model.specs.declared.geometry.Geometry.{Geometry}
-use Rattle.dram_model.specs.Elements.{column_count}
-use Rattle.object_alloc.specs.declared.table.Object.{Object}
-use Rattle.bbop_isa.specs.declared.instr.Part.{Part}
-use Rattle.bbop_isa.specs.declared.instr.Place.{Place}
-use Rattle.bbop_isa.specs.Forms.{Bbop, Fill, Free, whole}
-use Rattle.machine_model.specs.Agrees.{IsWidth}
-use Rattle.machine_model.specs.Columns.{object_size}
-use Rattle.machine_model.specs.Places.{cut, is_past, seen}
-use Rattle.machine_model.specs.Routines.{Routines}
-use Rattle.machine_model.specs.Refusals.{refusal, rows_of}
-use Rattle.machine_model.specs.Steps.{Held, table_of, numbers_at, with_results}
-use Rattle.machine_model.specs.Steps.{computed, new_object, worded}
+use Rattle.std.proofs.lemmas.List.FromFn.{get_or-map-range_with_len}
+use Rattle.std.proofs.lemmas.List.{get_or-replicate, length-replicate}
+use Rattle.machine_model.specs.Steps.{computed, new_object}
 use Rattle.scan_model.specs.declared.CmpOp.{CmpOp}
 use Rattle.scan_model.specs.declared.CmpOp.TheVariants as cmp
 use Rattle.scan_model.specs.Queries.{compared}

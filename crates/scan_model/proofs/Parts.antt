@@ -1,15 +1,9 @@
 -- Parts of objects: their widths, and what is seen of numbers.
-use Rattle.std.proofs.Common.{◌≡◌, ℕ, zero, suc, ◌+◌, ◌%◌, ◌^◌, ◌<◌, ◌≤◌}
-use Rattle.std.proofs.Common.{false, ltb, List, [], ◌∷◌, map, get_or, Option, Some, None}
-use Rattle.std.proofs.Common.{refl, sym, ◌∙◌, ap, arith}
-use Rattle.std.specs.List.{AllByRecursion}
-use Rattle.std.proofs.lemmas.Bool.Decides.{nat_tests}
-use Rattle.std.proofs.lemmas.Nat.{pow_pos}
+use Rattle.scan_model.proofs.Common.{◌≡◌, ℕ, zero, suc, ◌+◌, ◌%◌, ◌^◌, ◌<◌, ◌≤◌, false, ltb, List}
+use Rattle.scan_model.proofs.Common.{[], ◌∷◌, map, get_or, Option, Some, None, refl, sym, ◌∙◌, ap}
+use Rattle.scan_model.proofs.Common.{arith, AllByRecursion, nat_tests, pow_pos, Object, Part, cut}
+use Rattle.scan_model.proofs.Common.{is_past, seen, IsWidth}
 use Rattle.std.proofs.Math.Nat.{zero-div, zero-mod}
-use Rattle.object_alloc.specs.declared.table.Object.{Object}
-use Rattle.bbop_isa.specs.declared.instr.Part.{Part}
-use Rattle.machine_model.specs.Places.{cut, is_past, seen}
-use Rattle.machine_model.specs.Agrees.{IsWidth}
 use Rattle.scan_model.specs.Queries.{Operand, Whole, Bit, Bits, place_of, IsPart, HasParts}
 use Rattle.scan_model.specs.Queries.{Query, Compare, Negate, Both, Either, Node, Test, Not, And}
 use Rattle.scan_model.specs.Queries.{Or, size, nodes_from}

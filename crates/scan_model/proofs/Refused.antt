@@ -1,27 +1,14 @@
 -- An instruction of a scan is refused only for want of room.
-use Rattle.std.proofs.Common.{◌≡◌, ◌≢◌, ℕ, ◌*◌, ◌^◌, ◌<◌, ◌≤◌, Bool, true, false, not, eqb, ltb}
-use Rattle.std.proofs.Common.{leb, List, [], ◌∷◌, length, Option, Some, None, refl, ◌∙◌, ap, inl}
-use Rattle.std.proofs.Common.{inr, arith}
-use Rattle.std.specs.Prelude.{is_none}
-use Rattle.std.proofs.lemmas.Bool.Decides.{nat_tests}
-use Rattle.bit_rows.specs.declared.TheConstants.{WIDTH_MAX}
-use Rattle.op_text.specs.declared.tree.Kind.{Kind}
-use Rattle.op_text.specs.declared.tree.Kind.TheVariants.{Bit}
-use Rattle.dram_model.specs.declared.geometry.Geometry.{Geometry}
-use Rattle.dram_model.specs.Elements.{column_count}
-use Rattle.uprog_code.specs.Shape.{width, need}
-use Rattle.object_alloc.specs.Free.{free}
-use Rattle.object_alloc.specs.Listed.{objects_of, has_name, limit_of}
-use Rattle.bbop_isa.specs.declared.instr.Place.{Place}
-use Rattle.bbop_isa.specs.Forms.{Init, Bbop, Fill, Free, whole}
-use Rattle.machine_model.specs.declared.Why.{Why}
+use Rattle.scan_model.proofs.Common.{◌≡◌, ◌≢◌, ℕ, ◌*◌, ◌^◌, ◌<◌, ◌≤◌, Bool, true, false, not, eqb}
+use Rattle.scan_model.proofs.Common.{ltb, leb, List, [], ◌∷◌, length, Option, Some, None, refl, ◌∙◌}
+use Rattle.scan_model.proofs.Common.{ap, inl, inr, arith, is_none, nat_tests, WIDTH_MAX, Kind, Bit}
+use Rattle.scan_model.proofs.Common.{Geometry, column_count, need, free, objects_of, has_name}
+use Rattle.scan_model.proofs.Common.{limit_of, Place, Init, Bbop, Fill, Free, whole, Why, Routines}
+use Rattle.scan_model.proofs.Common.{cut, is_past, first, when, object_named, rows_of, goes_past}
+use Rattle.scan_model.proofs.Common.{walks_badly, refusal, Held, table_of, bytes_differ}
+use Rattle.uprog_code.specs.Shape.{width}
+use Rattle.machine_model.specs.Refusals.{is_absent, is_misfit}
 use Rattle.machine_model.specs.declared.Why.TheVariants as why
-use Rattle.machine_model.specs.Routines.{Routines}
-use Rattle.machine_model.specs.Places.{cut, is_past}
-use Rattle.machine_model.specs.Refusals.{first, when, object_named, rows_of, goes_past, is_absent}
-use Rattle.machine_model.specs.Refusals.{is_misfit, walks_badly, refusal}
-use Rattle.machine_model.specs.Steps.{Held, table_of}
-use Rattle.machine_model.proofs.Places.{bytes_differ}
 use Rattle.scan_model.specs.Laws.{Offers}
 use Rattle.scan_model.proofs.Goes.{Allowed, done, full}
 use Rattle.scan_model.proofs.States.{lookup, at_has, at_object, absent_has}

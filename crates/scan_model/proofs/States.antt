@@ -1,19 +1,15 @@
 -- Objects by name in a state that grows at its end.
-use Rattle.std.proofs.Common.{◌≡◌, ◌≢◌, ℕ, Bool, true, false, not, cond, List, [], ◌∷◌, ◌++◌}
-use Rattle.std.proofs.Common.{Option, Some, None, refl, ◌∙◌, ap, subst, append-nil, map, length}
-use Rattle.std.proofs.Common.{arith}
-use Rattle.std.specs.Prelude.{filter, ◌||◌}
-use Rattle.std.specs.List.{find, AllByRecursion}
-use Rattle.std.specs.Option.{option_map, unwrap_or, option_or}
-use Rattle.std.specs.Str.{bytes_eq}
+use Rattle.scan_model.proofs.Common.{◌≡◌, ◌≢◌, ℕ, Bool, true, false, not, cond, List, [], ◌∷◌, ◌++◌}
+use Rattle.scan_model.proofs.Common.{Option, Some, None, refl, ◌∙◌, ap, subst, append-nil, map}
+use Rattle.scan_model.proofs.Common.{length, arith, filter, ◌||◌, find, AllByRecursion, option_map}
+use Rattle.scan_model.proofs.Common.{unwrap_or, bytes_eq, Named, has_name, object_named, nothing}
+use Rattle.scan_model.proofs.Common.{Place, whole, seen, Held, table_of, numbers_at, with_results}
+use Rattle.scan_model.proofs.Common.{bytes_differ, find_map, entry_of}
+use Rattle.std.specs.Option.{option_or}
 use Rattle.std.proofs.lemmas.List.Folds.{find-append}
-use Rattle.object_alloc.specs.Listed.{Named, has_name}
-use Rattle.machine_model.specs.Refusals.{object_named, nothing}
-use Rattle.bbop_isa.specs.declared.instr.Place.{Place}
-use Rattle.bbop_isa.specs.Forms.{whole}
-use Rattle.machine_model.specs.Places.{seen, put_all}
-use Rattle.machine_model.specs.Steps.{Held, table_of, numbers_named, numbers_at, with_results}
-use Rattle.machine_model.proofs.Places.{bytes_same, bytes_differ, find_map, entry_of}
+use Rattle.machine_model.specs.Places.{put_all}
+use Rattle.machine_model.specs.Steps.{numbers_named}
+use Rattle.machine_model.proofs.Places.{bytes_same}
 
 -- the object of this name, and that there is none
 abbrev pub lookup : List Held → List ℕ → Option Held

@@ -1,18 +1,11 @@
 -- The instructions of a query, by its tree: each subquery leaves one object after what stood
 -- before it.
-use Rattle.std.proofs.Common.{◌≡◌, ◌≢◌, ℕ, ◌+◌, ◌*◌, ◌<◌, ◌≤◌, Bool, not, ◌&&◌, List, [], ◌∷◌}
-use Rattle.std.proofs.Common.{◌++◌, length, length-append, Some, None, refl, sym, ◌∙◌, ap, subst}
-use Rattle.std.proofs.Common.{arith, append-nil, append_assoc}
-use Rattle.std.specs.Prelude.{◌||◌, codes}
-use Rattle.op_text.specs.declared.tree.Kind.TheVariants.{Bit}
-use Rattle.bit_rows.specs.Bits.{bit_number}
-use Rattle.dram_model.specs.declared.geometry.Geometry.{Geometry}
-use Rattle.dram_model.specs.Elements.{column_count}
-use Rattle.object_alloc.specs.declared.table.Object.{Object}
-use Rattle.bbop_isa.specs.declared.instr.Place.{Place}
-use Rattle.bbop_isa.specs.Forms.{Instruction}
-use Rattle.machine_model.specs.Routines.{Routines}
-use Rattle.machine_model.specs.Steps.{Held, table_of}
+use Rattle.scan_model.proofs.Common.{◌≡◌, ◌≢◌, ℕ, ◌+◌, ◌*◌, ◌<◌, ◌≤◌, Bool, not, ◌&&◌, List, []}
+use Rattle.scan_model.proofs.Common.{◌∷◌, ◌++◌, length, Some, None, refl, sym, ◌∙◌, ap, subst}
+use Rattle.scan_model.proofs.Common.{arith, append-nil, ◌||◌, codes, Bit, bit_number, Geometry}
+use Rattle.scan_model.proofs.Common.{column_count, Object, Place, Instruction, Routines, Held}
+use Rattle.scan_model.proofs.Common.{table_of}
+use Rattle.std.proofs.Common.{length-append, append_assoc}
 use Rattle.scan_model.specs.declared.CmpOp.{CmpOp}
 use Rattle.scan_model.specs.Queries.{Query, Compare, Negate, Both, Either, Node, Test, Not, And}
 use Rattle.scan_model.specs.Queries.{Or, Operand, place_of, matches, size, nodes_from, last_from}

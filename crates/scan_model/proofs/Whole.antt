@@ -1,20 +1,10 @@
 -- The whole of a query.
-use Rattle.std.proofs.Common.{◌≡◌, ℕ, ◌+◌, ◌^◌, ◌<◌, ◌≤◌, Bool, true, false, not, cond, eqb, leb}
-use Rattle.std.proofs.Common.{List, [], ◌∷◌, ◌++◌, length, Option, Some, None, refl, sym, ◌∙◌, ap}
-use Rattle.std.proofs.Common.{subst, arith}
-use Rattle.std.specs.List.{AllByRecursion}
-use Rattle.std.specs.Option.{option_map}
-use Rattle.std.proofs.lemmas.Bool.Decides.{nat_tests}
-use Rattle.std.proofs.lemmas.List.{length-map}
-use Rattle.dram_model.specs.declared.geometry.Geometry.{Geometry}
-use Rattle.object_alloc.specs.Listed.{Named, has_name}
-use Rattle.machine_model.specs.declared.Why.{Why}
-use Rattle.machine_model.specs.Routines.{Routines}
-use Rattle.bbop_isa.specs.declared.instr.Place.{Place}
-use Rattle.machine_model.specs.Places.{cut, is_past}
-use Rattle.machine_model.specs.Refusals.{rows_of, goes_past}
-use Rattle.machine_model.specs.Steps.{Held, table_of}
-use Rattle.machine_model.specs.Script.{table_at_end}
+use Rattle.scan_model.proofs.Common.{◌≡◌, ℕ, ◌+◌, ◌^◌, ◌<◌, ◌≤◌, Bool, true, false, not, cond, eqb}
+use Rattle.scan_model.proofs.Common.{leb, List, [], ◌∷◌, ◌++◌, length, Option, Some, None, refl}
+use Rattle.scan_model.proofs.Common.{sym, ◌∙◌, ap, subst, arith, AllByRecursion, option_map}
+use Rattle.scan_model.proofs.Common.{nat_tests, length-map, Geometry, Named, has_name, Why}
+use Rattle.scan_model.proofs.Common.{Routines, Place, cut, is_past, rows_of, goes_past, Held}
+use Rattle.scan_model.proofs.Common.{table_of, table_at_end}
 use Rattle.scan_model.specs.declared.ScanWhy.TheVariants as scan
 use Rattle.scan_model.specs.Queries.{Query, Compare, Negate, Both, Either, Node, Test, Not, And}
 use Rattle.scan_model.specs.Queries.{Or, HasParts, place_of, matches, size, nodes_from, nodes_of}

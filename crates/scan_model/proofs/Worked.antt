@@ -1,13 +1,10 @@
 -- Worked values: queries, their nodes and instructions, names and faults.
-use Rattle.std.proofs.Common.{◌≡◌, ℕ, true, false, List, [], ◌∷◌, map, Some, None}
-use Rattle.std.proofs.Common.{refl}
-use Rattle.std.specs.Prelude.{codes}
+use Rattle.scan_model.proofs.Common.{◌≡◌, ℕ, true, false, List, [], ◌∷◌, map, Some, None, refl}
+use Rattle.scan_model.proofs.Common.{codes, Item, Bad, Named, Init, Bbop, Fill, Free, whole}
 use Rattle.text_lex.specs.declared.token.TokenKind.{TokenKind}
 use Rattle.text_lex.specs.declared.token.TokenKind.TheVariants.{Name, Number, Symbol}
-use Rattle.text_lex.specs.Lexical.{Item, Whole as Read, Bad}
+use Rattle.text_lex.specs.Lexical.{Whole as Read}
 use Rattle.grammar.specs.Machine as machine
-use Rattle.object_alloc.specs.Listed.{Named}
-use Rattle.bbop_isa.specs.Forms.{Init, Bbop, Fill, Free, whole}
 use Rattle.scan_model.specs.declared.CmpOp.TheVariants as cmp
 use Rattle.scan_model.specs.declared.QueryKind.TheVariants as kind
 use Rattle.scan_model.specs.declared.ScanWhy.TheVariants as scan

@@ -1,53 +1,39 @@
 -- What the parts of a scan come to together.
-use Rattle.std.proofs.Common.{◌≡◌, ℕ, suc, ◌+◌, ◌*◌, ◌<◌, ◌≤◌, List, [], ◌∷◌, ◌++◌, map, length}
-use Rattle.std.proofs.Common.{Option, Some, None, sym, ◌∙◌, ap, subst, arith, length-append}
-use Rattle.std.proofs.Common.{◌-◌, ◌^◌, ◌==◌, take, append-nil}
-use Rattle.std.specs.Prelude.{count_by}
+use Rattle.scan_query.proofs.Common.{◌≡◌, ℕ, suc, ◌+◌, ◌*◌, ◌<◌, ◌≤◌, List, [], ◌∷◌, ◌++◌, map}
+use Rattle.scan_query.proofs.Common.{length, Option, Some, None, sym, ◌∙◌, ap, subst, arith}
+use Rattle.scan_query.proofs.Common.{length-append, ◌-◌, ◌^◌, ◌==◌, take, append-nil, count_by}
+use Rattle.scan_query.proofs.Common.{AllByRecursion, Geometry, Counters, column_count, segments_of}
+use Rattle.scan_query.proofs.Common.{Banks, Event, all_counted, ChipView, DidRead, with_reads}
+use Rattle.scan_query.proofs.Common.{Counts, Named, Turn, Why, IsPlain, Routines, Piece}
+use Rattle.scan_query.proofs.Common.{events_of_pieces, pieces, piece_of, turn_at_end, table_at_end}
+use Rattle.scan_query.proofs.Common.{Machine, geometry_of, operations_by, program_of, table_in}
+use Rattle.scan_query.proofs.Common.{turn_in, DidAndRead, Refused, checked, checked_from, count_of}
+use Rattle.scan_query.proofs.Common.{scan_script, free_name, Query, Compare, Negate, Node}
+use Rattle.scan_query.proofs.Common.{nodes_from, size, each_is_alone, size_is}
 use Rattle.std.specs.Prelude.{All, Ok}
-use Rattle.std.specs.List.{AllByRecursion}
-use Rattle.dram_model.specs.declared.geometry.Geometry.{Geometry}
-use Rattle.dram_model.specs.declared.dram.Counters.{Counters}
-use Rattle.dram_model.specs.Elements.{column_count, segments_of}
-use Rattle.dram_model.specs.Chip.{Banks, Event, Grew, after, all_counted}
-use Rattle.dram_model.specs.View.{ChipView, DidRead, with_reads}
+use Rattle.dram_model.specs.Chip.{Grew, after}
 use Rattle.dram_model.proofs.EventLaws.{Grew-more}
-use Rattle.uprog_code.specs.declared.walker.Counts.{Counts}
 use Rattle.uprog_code.specs.Texts.{ImplementsAll}
 use Rattle.object_alloc.specs.declared.table.Object.{Object}
 use Rattle.object_alloc.specs.Free.{end_of}
-use Rattle.object_alloc.specs.Listed.{Named, limit_of}
+use Rattle.object_alloc.specs.Listed.{limit_of}
 use Rattle.object_alloc.specs.Spelling.{IsObject}
-use Rattle.wave_model.specs.Schedule.{Turn}
-use Rattle.machine_model.specs.declared.Why.{Why}
-use Rattle.machine_model.specs.Agrees.{IsPlain}
 use Rattle.machine_model.specs.Columns.{columns, segments}
 use Rattle.machine_model.specs.Laws.{FitsBanks}
-use Rattle.machine_model.specs.Routines.{Routines}
-use Rattle.machine_model.specs.Pieces.{Piece, events_of_pieces, pieces, piece_of, turn_at_end}
-use Rattle.machine_model.specs.Script.{banks_at_end, replies, sum_of, table_at_end, with_counts}
-use Rattle.machine_model.specs.Script.{with_writes}
+use Rattle.machine_model.specs.Script.{banks_at_end, replies, sum_of, with_counts, with_writes}
 use Rattle.machine_model.proofs.Bounds.{geometry_parts}
 use Rattle.machine_model.proofs.Pieces.{counted_by_replies, events_are_steps}
 use Rattle.machine_model.proofs.Texts.{same_operations}
-use Rattle.sim_machine.specs.declared.machine.Machine.{Machine}
-use Rattle.sim_machine.specs.Machine.{IsLaidOut, at_end, geometry_of, operations_by, program_of}
-use Rattle.sim_machine.specs.Machine.{table_in}
-use Rattle.sim_machine.specs.Machine.{turn_in}
-use Rattle.sim_machine.specs.Steps.{DidAndRead}
+use Rattle.sim_machine.specs.Machine.{IsLaidOut, at_end}
 use Rattle.scan_model.specs.declared.ScanWhy.{ScanWhy}
-use Rattle.scan_model.specs.Answers.{Found, Refused, LeavesOne, answer, by_checks, by_run}
-use Rattle.scan_model.specs.Answers.{found_in, query_count, query_script, room_word}
-use Rattle.scan_model.specs.Checks.{checked, checked_from}
-use Rattle.scan_model.specs.Instructions.{count_of, scan_script}
-use Rattle.scan_model.specs.Names.{free_name}
+use Rattle.scan_model.specs.Answers.{Found, LeavesOne, answer, by_checks, by_run, found_in}
+use Rattle.scan_model.specs.Answers.{query_count, query_script, room_word}
 use Rattle.scan_model.specs.Laws.{scan_refused}
 use Rattle.scan_model.specs.Operations.{scan_text}
-use Rattle.scan_model.specs.Queries.{Query, Compare, Negate, Both, Either, Node, nodes_from}
-use Rattle.scan_model.specs.Queries.{nodes_of}
-use Rattle.scan_model.specs.Queries.{size, HasParts}
+use Rattle.scan_model.specs.Queries.{Both, Either, nodes_of, HasParts}
 use Rattle.scan_model.proofs.Answered.{scan_is_plain, scans_answer}
-use Rattle.scan_model.proofs.Counted.{all_append, each_is_alone, nothing_is_moved}
-use Rattle.scan_model.proofs.Trees.{size_is, size_some}
+use Rattle.scan_model.proofs.Counted.{all_append, nothing_is_moved}
+use Rattle.scan_model.proofs.Trees.{size_some}
 use Rattle.scan_query.specs.Queries.{IsNodesOf, sources_fit}
 use Rattle.scan_query.specs.Running.{AreBelow, NodesRan, NodesRun, refused_node}
 use Rattle.scan_query.proofs.Nodewise.{node_room}

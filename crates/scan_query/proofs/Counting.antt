@@ -1,25 +1,24 @@
 -- Ones, counted word by word and bank by bank.
-use Rattle.std.proofs.Common.{◌≡◌, ℕ, zero, suc, ◌+◌, ◌-◌, ◌*◌, ◌/◌, ◌%◌, ◌^◌, ◌<◌, ◌≤◌, ◌==◌}
-use Rattle.std.proofs.Common.{Bool, true, false, cond, min}
-use Rattle.std.proofs.Common.{List, [], ◌∷◌, ◌++◌, map, length, length-append, get_or, take, drop, refl}
-use Rattle.std.proofs.Common.{sym, ◌∙◌, ap, arith, append-nil}
-use Rattle.std.specs.Prelude.{count_by, count_ones, flat_map}
-use Rattle.std.specs.List.{range_with_len}
+use Rattle.scan_query.proofs.Common.{◌≡◌, ℕ, zero, suc, ◌+◌, ◌-◌, ◌*◌, ◌/◌, ◌^◌, ◌<◌, ◌≤◌, ◌==◌}
+use Rattle.scan_query.proofs.Common.{Bool, true, false, cond, List, [], ◌∷◌, ◌++◌, map, length}
+use Rattle.scan_query.proofs.Common.{length-append, get_or, take, drop, refl, sym, ◌∙◌, ap, arith}
+use Rattle.scan_query.proofs.Common.{append-nil, count_by, flat_map, range_with_len}
+use Rattle.scan_query.proofs.Common.{pow-le-pow_right, pow_pos, map-append, length-map}
+use Rattle.scan_query.proofs.Common.{take-append-drop, bits_of_words, Banks, number, below}
+use Rattle.std.proofs.Common.{◌%◌, min}
+use Rattle.std.specs.Prelude.{count_ones}
 use Rattle.std.specs.Int.Count.{ones}
 use lib.Count.{ones_step, ones-le}
-use Rattle.std.proofs.Math.Nat.{pow-succ', suc-mul, pow-le-pow_right, mod-eq_of_lt, mod-lt}
-use Rattle.std.proofs.lemmas.Nat.{pow_pos}
+use Rattle.std.proofs.Math.Nat.{pow-succ', suc-mul, mod-eq_of_lt, mod-lt}
 use Rattle.std.proofs.Math.Seq.{take-suc}
-use Rattle.std.proofs.lemmas.List.{map-append, length-map, take-append-drop}
 use Rattle.std.proofs.lemmas.List.Sums.{sum_by-cons, sum_by-append}
 use Rattle.std.proofs.lemmas.Grind.{flat_map-append}
-use Rattle.bit_rows.specs.Bits.{bits, bits_of_words, bit_number, value}
+use Rattle.bit_rows.specs.Bits.{bits, bit_number, value}
 use Rattle.bit_rows.proofs.Words.{length-bits, value-bits, bits-value, length-words}
-use Rattle.scan_query.proofs.Naming.{range_more}
 use Rattle.dram_model.specs.declared.address.Cell.TheVariants.{D}
 use Rattle.dram_model.specs.Column.{Column}
-use Rattle.dram_model.specs.Chip.{Banks, row_in}
-use Rattle.dram_model.specs.Elements.{number, below}
+use Rattle.dram_model.specs.Chip.{row_in}
+use Rattle.scan_query.proofs.Naming.{range_more}
 
 digit_one : (r : ℕ) → r < 2 → r ≡ cond (r == 1) 1 0
 digit_one zero l = refl

@@ -1,21 +1,16 @@
 -- A whole text is read.
-use Rattle.std.proofs.Common.{◌≡◌, ℕ, Bool, true, false, List, [], ◌∷◌, ◌++◌, Option, Some, None}
-use Rattle.std.proofs.Common.{Result, cond, refl, sym, ap, ◌∙◌, codes, length}
-use Rattle.std.specs.Str.{bytes_eq}
-use Rattle.std.specs.Option.{option_map}
-use Rattle.std.specs.Result.{IsErrAnd}
-use Rattle.std.proofs.lemmas.Result.{err_from_is_err_and}
-use Rattle.text_lex.specs.declared.token.LexFault.{LexFault}
-use Rattle.text_lex.specs.Lexical.{Bad, Item, Lexeme, Whole, items_of}
-use Rattle.grammar.specs.declared.Breach.{Breach}
-use Rattle.grammar.specs.Machine as machine
-use Rattle.scan_model.specs.declared.QueryKind.{QueryKind}
-use Rattle.scan_model.specs.declared.QueryKind.TheVariants as kind
-use Rattle.scan_model.specs.Queries as query
-use Rattle.scan_model.specs.Texts as model
+use Rattle.scan_query.proofs.Common.{◌≡◌, ℕ, Bool, true, false, List, [], ◌∷◌, ◌++◌, Option, Some}
+use Rattle.scan_query.proofs.Common.{None, Result, cond, refl, sym, ap, ◌∙◌, codes, length}
+use Rattle.scan_query.proofs.Common.{bytes_eq, option_map, IsErrAnd, err_from_is_err_and, LexFault}
+use Rattle.scan_query.proofs.Common.{Bad, Item, Whole, items_of, Breach, QueryKind}
+use Rattle.text_lex.specs.Lexical.{Lexeme}
 use Rattle.scan_model.specs.TextLaws.{QueryTextLaws, words_of}
 use Rattle.scan_model.proofs.Parts.{written_parts}
 use Rattle.op_text.specs.Lines.{line_of}
+use Rattle.grammar.specs.Machine as machine
+use Rattle.scan_model.specs.declared.QueryKind.TheVariants as kind
+use Rattle.scan_model.specs.Queries as query
+use Rattle.scan_model.specs.Texts as model
 use Rattle.scan_query.specs.declared.reading.ReadError.{ReadError}
 use Rattle.scan_query.specs.Parsing.{IsQueryOf}
 use Rattle.scan_query.specs.Reading.{Fails, Finds, ParserView, Reads, breach, left, start_of}

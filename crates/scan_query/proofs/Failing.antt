@@ -1,25 +1,15 @@
 -- Instructions that are done up to one at which the chip fails.
-use Rattle.std.proofs.Common.{◌≡◌, ℕ, ◌+◌, take, drop, List, [], ◌∷◌, ◌++◌, map, length}
-use Rattle.std.proofs.Common.{sym, ◌∙◌, ap, subst, arith, append-nil}
-use Rattle.std.proofs.lemmas.List.{take-append-drop, map-append}
-use Rattle.dram_model.specs.declared.geometry.Geometry.{Geometry}
+use Rattle.scan_query.proofs.Common.{◌≡◌, ℕ, ◌+◌, take, drop, List, [], ◌∷◌, ◌++◌, map, length, sym}
+use Rattle.scan_query.proofs.Common.{◌∙◌, ap, subst, arith, append-nil, take-append-drop}
+use Rattle.scan_query.proofs.Common.{map-append, Geometry, Banks, Event, ChipView, DidRead, Named}
+use Rattle.scan_query.proofs.Common.{Turn, Instruction, Routines, Piece, events_of_pieces, piece_of}
+use Rattle.scan_query.proofs.Common.{pieces, turn_at_end, table_at_end, pieces_go_on, Machine}
+use Rattle.scan_query.proofs.Common.{events_by, geometry_of, operations_by, table_in, turn_in}
+use Rattle.scan_query.proofs.Common.{each_is_alone, node_instructions, scan_script, script_from}
+use Rattle.scan_query.proofs.Common.{Node}
 use Rattle.faults.specs.Counts.{Rose}
-use Rattle.dram_model.specs.Chip.{Banks, Event}
-use Rattle.dram_model.specs.View.{ChipView, DidRead}
 use Rattle.transpose_unit.specs.Stopped.{StoppedWithin}
 use Rattle.transpose_unit.proofs.Stopping.{stopped_before, stopped_first, stopped_later}
-use Rattle.object_alloc.specs.Listed.{Named}
-use Rattle.wave_model.specs.Schedule.{Turn}
-use Rattle.bbop_isa.specs.Forms.{Instruction}
-use Rattle.machine_model.specs.Routines.{Routines}
-use Rattle.machine_model.specs.Pieces.{Piece, events_of_pieces, piece_of, pieces, turn_at_end}
-use Rattle.machine_model.specs.Script.{table_at_end}
-use Rattle.machine_model.proofs.Parts.{pieces_go_on}
-use Rattle.sim_machine.specs.declared.machine.Machine.{Machine}
-use Rattle.sim_machine.specs.Machine.{events_by, geometry_of, operations_by, table_in, turn_in}
-use Rattle.scan_model.proofs.Counted.{each_is_alone}
-use Rattle.scan_model.specs.Instructions.{node_instructions, scan_script, script_from}
-use Rattle.scan_model.specs.Queries.{Node}
 use Rattle.scan_query.specs.Running.{FailedAmong, NodesRan, Ran}
 use Rattle.scan_query.proofs.Nodewise.{script_snoc}
 use Rattle.scan_query.proofs.Running.{holds_all, take_one_more}

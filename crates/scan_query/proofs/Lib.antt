@@ -1,3 +1,4 @@
+pub mod Common
 pub mod Running
 pub mod Naming
 pub mod Counting

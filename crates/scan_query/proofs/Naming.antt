@@ -1,19 +1,16 @@
 -- Free names, gathered one by one, and what is looked up under a name.
-use Rattle.std.proofs.Common.{◌≡◌, ℕ, zero, suc, ◌+◌, ◌/◌, ◌^◌, ◌<◌, ◌≤◌, Bool, true, false}
-use Rattle.std.proofs.Common.{not, cond}
-use Rattle.std.proofs.Common.{List, [], ◌∷◌, ◌++◌, map, length, take, Option, Some, refl}
-use Rattle.std.proofs.Common.{sym, ◌∙◌, ap, arith}
-use Rattle.std.proofs.Common.{get_or}
-use Rattle.std.specs.Prelude.{filter, is_none, nat_le, nat_lt, nat_eq, ◌||◌}
-use Rattle.std.specs.List.{range_with_len, find}
-use Rattle.std.specs.Option.{option_map}
-use Rattle.std.specs.Str.{bytes_eq}
+use Rattle.scan_query.proofs.Common.{◌≡◌, ℕ, zero, suc, ◌+◌, ◌/◌, ◌^◌, ◌<◌, ◌≤◌, Bool, true, false}
+use Rattle.scan_query.proofs.Common.{not, cond, List, [], ◌∷◌, ◌++◌, map, length, take, Option}
+use Rattle.scan_query.proofs.Common.{Some, refl, sym, ◌∙◌, ap, arith, get_or, filter, is_none}
+use Rattle.scan_query.proofs.Common.{range_with_len, option_map, bytes_eq, map-append, pow_pos}
+use Rattle.scan_query.proofs.Common.{pow-le-pow_right, Named, has_name, free_among, free_name}
+use Rattle.std.specs.Prelude.{nat_le, nat_lt, nat_eq, ◌||◌}
+use Rattle.std.specs.List.{find}
 use Rattle.std.proofs.lemmas.Bool.Decides.{nat_tests}
-use Rattle.std.proofs.lemmas.List.{map-append, get_or-take}
-use Rattle.std.proofs.lemmas.Nat.{pow_pos}
-use Rattle.std.proofs.Math.Nat.{div-lt_iff_lt-mul, pow-le-pow_right}
-use Rattle.object_alloc.specs.Listed.{Named, has_name, look_up}
-use Rattle.scan_model.specs.Names.{free_among, free_name, scan_name}
+use Rattle.std.proofs.lemmas.List.{get_or-take}
+use Rattle.std.proofs.Math.Nat.{div-lt_iff_lt-mul}
+use Rattle.object_alloc.specs.Listed.{look_up}
+use Rattle.scan_model.specs.Names.{scan_name}
 
 free_case : (b : Bool) (p : Named) (found : Option Named) (rest : Bool)
     → is_none (option_map (λ (q : Named). q.1) found) ≡ not rest

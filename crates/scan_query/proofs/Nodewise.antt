@@ -1,26 +1,15 @@
 -- A query's instructions, node by node.
-use Rattle.std.proofs.Common.{◌≡◌, ℕ, zero, suc, ◌+◌, ◌*◌, ◌<◌, ◌≤◌, ◌^◌, List, [], ◌∷◌, ◌++◌}
-use Rattle.std.proofs.Common.{map, length}
-use Rattle.std.proofs.Common.{length-append, get_or, take, drop, Option, Some, None, refl, sym}
-use Rattle.std.proofs.Common.{◌∙◌, ap, subst, arith, append-nil, append_assoc}
-use Rattle.std.specs.Prelude.{slice_get}
-use Rattle.std.specs.List.{AllByRecursion}
+use Rattle.scan_query.proofs.Common.{◌≡◌, ℕ, zero, suc, ◌+◌, ◌*◌, ◌<◌, ◌≤◌, ◌^◌, List, [], ◌∷◌}
+use Rattle.scan_query.proofs.Common.{◌++◌, map, length, length-append, get_or, take, drop, Option}
+use Rattle.scan_query.proofs.Common.{Some, None, refl, sym, ◌∙◌, ap, subst, arith, append-nil}
+use Rattle.scan_query.proofs.Common.{append_assoc, slice_get, AllByRecursion, map-append}
+use Rattle.scan_query.proofs.Common.{length-map, Geometry, ChipView, WALK_MAX, Named, Instruction}
+use Rattle.scan_query.proofs.Common.{Why, Routines, table_at_end, Machine, geometry_of}
+use Rattle.scan_query.proofs.Common.{operations_by, program_of, table_in, refused_in, refused_from}
+use Rattle.scan_query.proofs.Common.{node_instructions, script_from, free_name, Node, Test}
 use Rattle.std.proofs.Math.Nat.{mul-le-mul_right}
-use Rattle.std.proofs.lemmas.List.{map-append, length-map}
-use Rattle.dram_model.specs.declared.geometry.Geometry.{Geometry}
-use Rattle.dram_model.specs.View.{ChipView}
-use Rattle.uprog_code.specs.declared.TheConstants.{WALK_MAX}
-use Rattle.object_alloc.specs.Listed.{Named}
-use Rattle.bbop_isa.specs.Forms.{Instruction}
-use Rattle.machine_model.specs.declared.Why.{Why}
-use Rattle.machine_model.specs.Routines.{Routines}
-use Rattle.machine_model.specs.Script.{table_at_end}
-use Rattle.sim_machine.specs.declared.machine.Machine.{Machine}
-use Rattle.sim_machine.specs.Machine.{geometry_of, operations_by, program_of, table_in}
-use Rattle.scan_model.specs.Checks.{refused_in, refused_from, or_later}
-use Rattle.scan_model.specs.Instructions.{node_instructions, script_from}
-use Rattle.scan_model.specs.Names.{free_name}
-use Rattle.scan_model.specs.Queries.{Node, Test, Not, And, Or}
+use Rattle.scan_model.specs.Checks.{or_later}
+use Rattle.scan_model.specs.Queries.{Not, And, Or}
 use Rattle.scan_query.specs.Queries.{instructions_for, names_in, sources_fit, width_in}
 use Rattle.scan_query.specs.Running.{Ran, AreBelow}
 use Rattle.scan_query.proofs.Running.{ran_then}

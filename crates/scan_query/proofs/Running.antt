@@ -1,39 +1,21 @@
 -- Instructions that are done one after another.
-use Rattle.std.proofs.Common.{◌≡◌, ℕ, zero, suc, ◌+◌, ◌*◌, ◌≤◌, Bool, true, false, cond}
-use Rattle.std.proofs.Common.{take, drop, List, [], ◌∷◌}
-use Rattle.std.proofs.Common.{◌++◌, map, length, length-append, Option, Some, None}
-use Rattle.std.proofs.Common.{refl, sym, ◌∙◌, ap, subst, arith}
-use Rattle.std.specs.Prelude.{flat_map, is_none, slice_get}
-use Rattle.std.specs.List.{AllByRecursion}
-use Rattle.std.proofs.lemmas.List.{take-append-drop}
-use Rattle.std.proofs.lemmas.List.{map-append}
-use Rattle.dram_model.specs.View.{ChipView, Did, with_reads}
-use Rattle.dram_model.specs.declared.dram.Counters.{Counters}
-use Rattle.dram_model.proofs.EventLaws.{Did-none, Did-more, Kept-same, Kept-more}
-use Rattle.uprog_code.specs.declared.TheConstants.{WALK_MAX}
-use Rattle.wave_model.specs.Schedule.{Turn}
-use Rattle.dram_model.specs.Chip.{Event, all_counted}
-use Rattle.dram_model.specs.declared.geometry.Geometry.{Geometry}
-use Rattle.object_alloc.specs.Listed.{Named}
-use Rattle.uprog_code.specs.declared.walker.Counts.{Counts}
-use Rattle.bbop_isa.specs.Forms.{Instruction, Init, Bbop, Load, Fill, Print, Free, Order}
-use Rattle.machine_model.specs.declared.Why.{Why}
+use Rattle.scan_query.proofs.Common.{◌≡◌, ℕ, zero, suc, ◌+◌, ◌*◌, ◌≤◌, Bool, true, false, cond}
+use Rattle.scan_query.proofs.Common.{take, drop, List, [], ◌∷◌, ◌++◌, map, length, length-append}
+use Rattle.scan_query.proofs.Common.{Option, Some, None, refl, sym, ◌∙◌, ap, subst, arith, flat_map}
+use Rattle.scan_query.proofs.Common.{is_none, slice_get, AllByRecursion, take-append-drop}
+use Rattle.scan_query.proofs.Common.{map-append, ChipView, Did, with_reads, Counters, Did-more}
+use Rattle.scan_query.proofs.Common.{Kept-more, WALK_MAX, Turn, Event, all_counted, Geometry, Named}
+use Rattle.scan_query.proofs.Common.{Counts, Instruction, Init, Bbop, Load, Fill, Print, Free}
+use Rattle.scan_query.proofs.Common.{Order, Why, refusal, reply_by, counts_for, events_of_pieces}
+use Rattle.scan_query.proofs.Common.{piece_of, turn_at_end, Routines, table_at_end, scripts_go_on}
+use Rattle.scan_query.proofs.Common.{pieces_go_on, Machine, geometry_of, operations_by, table_in}
+use Rattle.scan_query.proofs.Common.{turn_in, reply_of, reads_by, is_print, DidAndRead, refused_in}
+use Rattle.scan_query.proofs.Common.{or_else, refused-append}
+use Rattle.dram_model.proofs.EventLaws.{Did-none, Kept-same}
 use Rattle.machine_model.specs.declared.Reply.TheVariants.{Refused}
-use Rattle.machine_model.specs.Refusals.{refusal}
-use Rattle.machine_model.specs.Steps.{reply_by, counts_for}
-use Rattle.machine_model.specs.Pieces.{instrs_in, events_of_pieces, piece_of}
-use Rattle.machine_model.specs.Pieces.{turn_at_end}
-use Rattle.machine_model.specs.Routines.{Routines}
-use Rattle.machine_model.specs.Script.{table_at_end, is_bbop}
-use Rattle.machine_model.proofs.Parts.{scripts_go_on, pieces_go_on}
+use Rattle.machine_model.specs.Pieces.{instrs_in}
+use Rattle.machine_model.specs.Script.{is_bbop}
 use Rattle.object_steps.specs.Objects.{RisesAtMost}
-use Rattle.sim_machine.specs.declared.machine.Machine.{Machine}
-use Rattle.sim_machine.specs.Machine.{geometry_of, operations_by, table_in}
-use Rattle.sim_machine.specs.Machine.{turn_in, reply_of}
-use Rattle.sim_machine.specs.Machine.{reads_by, is_print}
-use Rattle.sim_machine.specs.Steps.{DidAndRead}
-use Rattle.scan_model.specs.Checks.{refused_in, or_else}
-use Rattle.scan_model.proofs.Goes.{refused-append}
 use Rattle.scan_query.specs.Running.{Ran}
 
 -- single pieces hold the script

@@ -1,18 +1,16 @@
 -- What is read spells a query.
-use Rattle.std.proofs.Common.{◌≡◌, ℕ, ◌+◌, Bool, true, false, List, [], ◌∷◌, ◌++◌, map, length}
-use Rattle.std.proofs.Common.{Result, Ok, Err, Option, Some, None, ◌-◌, refl, sym, ap, ◌∙◌}
-use Rattle.std.proofs.Common.{arith, codes}
-use Rattle.std.proofs.Common.{append_assoc, length-append}
+use Rattle.scan_query.proofs.Common.{◌≡◌, ℕ, ◌+◌, Bool, true, false, List, [], ◌∷◌, ◌++◌, map}
+use Rattle.scan_query.proofs.Common.{length, Result, Ok, Err, Option, Some, None, ◌-◌, refl, sym}
+use Rattle.scan_query.proofs.Common.{ap, ◌∙◌, arith, codes, append_assoc, length-append, map-append}
+use Rattle.scan_query.proofs.Common.{length-map, Compare, Negate, Query, Test, nodes_from, size}
+use Rattle.scan_query.proofs.Common.{size_is}
 use Rattle.std.specs.Result.{IfOk, OnOk}
-use Rattle.std.proofs.lemmas.List.{map-append, length-map}
 use Rattle.scan_model.specs.declared.CmpOp.{CmpOp}
 use Rattle.bbop_isa.specs.declared.instr.Part.{Part}
 use Rattle.bbop_isa.specs.declared.instr.Place.{Place}
-use Rattle.scan_model.specs.Queries.{Whole, Bit, Bits}
-use Rattle.scan_model.specs.Queries.{Compare, Negate, Query, Test, nodes_from, last_from, size}
+use Rattle.scan_model.specs.Queries.{Whole, Bit, Bits, last_from}
 use Rattle.scan_model.specs.Queries as query
 use Rattle.scan_model.specs.Texts as model
-use Rattle.scan_model.proofs.Trees.{size_is}
 use Rattle.scan_query.specs.declared.query.Node.{Node}
 use Rattle.scan_query.specs.declared.reading.ReadError.{ReadError}
 use Rattle.scan_query.specs.Queries.{node_of}

@@ -1,35 +1,20 @@
 -- Instructions that are done up to one that is refused.
-use Rattle.std.proofs.Common.{◌≡◌, ℕ, zero, suc, ◌+◌, false, cond, take, drop, List, [], ◌∷◌}
-use Rattle.std.proofs.Common.{◌++◌, map, length, Option, Some, None, refl, sym, ◌∙◌, ap, subst}
-use Rattle.std.proofs.Common.{arith, append_assoc}
-use Rattle.std.specs.Prelude.{Ok, is_none, sum_by}
-use Rattle.std.specs.List.{range_with_len}
-use Rattle.std.proofs.lemmas.List.{take-append-drop, map-append}
-use Rattle.dram_model.specs.declared.geometry.Geometry.{Geometry}
-use Rattle.dram_model.specs.View.{ChipView, Did}
-use Rattle.dram_model.specs.Chip.{Event}
-use Rattle.dram_model.proofs.EventLaws.{Did-more}
-use Rattle.wave_model.specs.Schedule.{Turn, queues, events_of_picks, picks, whole_picks, in_turn}
-use Rattle.object_alloc.specs.Listed.{Named}
-use Rattle.bbop_isa.specs.Forms.{Instruction, Init, Bbop, Load, Fill, Print, Free, Order}
-use Rattle.uprog_code.specs.declared.walker.Counts.{Counts}
-use Rattle.machine_model.specs.declared.Why.{Why}
+use Rattle.scan_query.proofs.Common.{◌≡◌, ℕ, zero, suc, ◌+◌, false, cond, take, drop, List, [], ◌∷◌}
+use Rattle.scan_query.proofs.Common.{◌++◌, map, length, Option, Some, None, refl, sym, ◌∙◌, ap}
+use Rattle.scan_query.proofs.Common.{subst, arith, append_assoc, is_none, range_with_len}
+use Rattle.scan_query.proofs.Common.{take-append-drop, map-append, Geometry, ChipView, Did, Event}
+use Rattle.scan_query.proofs.Common.{Did-more, Turn, Named, Instruction, Init, Bbop, Load, Fill}
+use Rattle.scan_query.proofs.Common.{Print, Free, Order, Counts, Why, refusal, Routines, counts_for}
+use Rattle.scan_query.proofs.Common.{reply_by, events_of_pieces, piece_of, turn_at_end}
+use Rattle.scan_query.proofs.Common.{table_at_end, scripts_go_on, pieces_go_on, Machine, events_by}
+use Rattle.scan_query.proofs.Common.{geometry_of, is_print, operations_by, reads_by, reply_of}
+use Rattle.scan_query.proofs.Common.{table_in, turn_in, DidAndRead, or_else, refused_in}
+use Rattle.scan_query.proofs.Common.{node_instructions, script_from, Node, refused-append}
+use Rattle.std.specs.Prelude.{Ok, sum_by}
+use Rattle.wave_model.specs.Schedule.{queues, events_of_picks, picks, whole_picks, in_turn}
 use Rattle.machine_model.specs.declared.Reply.TheVariants.{Refused}
-use Rattle.machine_model.specs.Refusals.{refusal}
-use Rattle.machine_model.specs.Routines.{Routines}
-use Rattle.machine_model.specs.Steps.{counts_for, if_done, job_of, own_events, reply_by}
-use Rattle.machine_model.specs.Pieces.{events_of_pieces, piece_events, piece_of, turn_at_end}
-use Rattle.machine_model.specs.Pieces.{wave_queues}
-use Rattle.machine_model.specs.Script.{table_at_end}
-use Rattle.machine_model.proofs.Parts.{scripts_go_on, pieces_go_on}
-use Rattle.sim_machine.specs.declared.machine.Machine.{Machine}
-use Rattle.sim_machine.specs.Machine.{events_by, geometry_of, is_print, operations_by, reads_by}
-use Rattle.sim_machine.specs.Machine.{reply_of, table_in, turn_in}
-use Rattle.sim_machine.specs.Steps.{DidAndRead}
-use Rattle.scan_model.specs.Checks.{or_else, refused_in}
-use Rattle.scan_model.specs.Instructions.{node_instructions, script_from}
-use Rattle.scan_model.specs.Queries.{Node}
-use Rattle.scan_model.proofs.Goes.{refused-append}
+use Rattle.machine_model.specs.Steps.{if_done, job_of, own_events}
+use Rattle.machine_model.specs.Pieces.{piece_events, wave_queues}
 use Rattle.scan_query.specs.Running.{Ran, Runs, StoppedAt}
 use Rattle.scan_query.proofs.Nodewise.{script_snoc}
 use Rattle.scan_query.proofs.Running.{holds_all, refused_one, silent_did, silent_reads}

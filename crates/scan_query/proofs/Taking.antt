@@ -1,22 +1,18 @@
 -- A query's token is taken.
-use Rattle.std.proofs.Common.{◌≡◌, ℕ, Bool, true, false, ◌&&◌, List, [], ◌∷◌, ◌++◌, Option, Some}
-use Rattle.std.proofs.Common.{None}
-use Rattle.std.proofs.Common.{Result, Ok, Err, cond, refl, sym, ap, ◌∙◌, subst}
-use Rattle.std.specs.Option.{option_map}
-use Rattle.std.specs.Result.{IsErrAnd}
-use Rattle.std.specs.List.{AllByRecursion}
-use Rattle.std.proofs.lemmas.Result.{err_from_is_err_and}
+use Rattle.scan_query.proofs.Common.{◌≡◌, ℕ, Bool, true, false, List, [], ◌∷◌, ◌++◌, Option, Some}
+use Rattle.scan_query.proofs.Common.{None, Result, Ok, Err, cond, refl, sym, ap, ◌∙◌, subst}
+use Rattle.scan_query.proofs.Common.{option_map, IsErrAnd, AllByRecursion, err_from_is_err_and}
+use Rattle.scan_query.proofs.Common.{LexFault, Item, Whole, Bad, lexeme_of, QueryKind, Breach}
+use Rattle.std.proofs.lemmas.Bool.{and_from}
+use Rattle.std.proofs.Common.{◌&&◌}
 use Rattle.text_lex.specs.declared.token.TokenKind.{TokenKind}
-use Rattle.text_lex.specs.declared.token.TokenKind.TheVariants as kinds
-use Rattle.text_lex.specs.declared.token.LexFault.{LexFault}
 use Rattle.text_lex.specs.declared.token.Token.{Token}
-use Rattle.text_lex.specs.Lexical.{Item, Whole, Bad, IsRight, is_token, lexeme_of}
-use Rattle.scan_model.specs.declared.QueryKind.{QueryKind}
+use Rattle.text_lex.specs.Lexical.{IsRight, is_token}
+use Rattle.grammar.proofs.Steps.{moved, refused}
+use Rattle.text_lex.specs.declared.token.TokenKind.TheVariants as kinds
 use Rattle.scan_model.specs.declared.QueryKind.TheVariants as kind
 use Rattle.scan_model.specs.Texts as model
-use Rattle.grammar.specs.declared.Breach.{Breach}
 use Rattle.grammar.specs.Machine as machine
-use Rattle.grammar.proofs.Steps.{moved, refused}
 use Rattle.scan_query.specs.declared.reading.Mark.{Mark}
 use Rattle.scan_query.specs.declared.reading.Mark.TheVariants as mark
 use Rattle.scan_query.specs.declared.reading.ReadError.{ReadError}
@@ -95,14 +91,10 @@ written kinds.Number (b ∷ bs) e = e
 written kinds.Name t e = refl
 written kinds.Symbol t e = refl
 
-both : (a b : Bool) → a ≡ true → b ≡ true → (a && b) ≡ true
-both true b e f = f
-both false b e f = cc
-
 pub all_digits : (text : List ℕ) (items : List Item) → AllByRecursion (IsRight text) items
     → are_digits items ≡ true
 all_digits text [] all = refl
-all_digits text (Whole t ∷ items) all = both (is_written t.kind t.text) (are_digits items)
+all_digits text (Whole t ∷ items) all = and_from (is_written t.kind t.text) (are_digits items)
     (written t.kind t.text all.0.1) (all_digits text items all.1)
 all_digits text (Bad f ∷ items) all = all_digits text items all.1
 

@@ -1,28 +1,15 @@
 -- What comes of a bbop, which is a wave of one.
-use Rattle.std.proofs.Common.{◌≡◌, ℕ, ◌≤◌, Bool, true, false, cond, List, [], ◌∷◌, ◌++◌, refl}
-use Rattle.std.proofs.Common.{sym, ◌∙◌, ap, subst, append-nil, arith, map, get_or}
-use Rattle.std.specs.Prelude.{Err, is_none, take, drop}
-use Rattle.std.specs.List.{AllByRecursion}
+use Rattle.sim_machine.proofs.Common.{◌≡◌, ℕ, ◌≤◌, Bool, true, false, cond, List, [], ◌∷◌, ◌++◌}
+use Rattle.sim_machine.proofs.Common.{refl, sym, ◌∙◌, ap, subst, append-nil, arith, map, get_or}
+use Rattle.sim_machine.proofs.Common.{Err, is_none, AllByRecursion, SinkView, Known, AppendsPart}
+use Rattle.sim_machine.proofs.Common.{Rose, Event, StoppedWithin, ChipView, Did, Queues, WaveJob}
+use Rattle.sim_machine.proofs.Common.{StoppedAmong, Instruction, Init, Bbop, Load, Fill, Print}
+use Rattle.sim_machine.proofs.Common.{Free, Order, Reply, Piece, Wave, jobs_of, piece_of, refusal}
+use Rattle.sim_machine.proofs.Common.{line, Answered, is_bbop, StepFault, ChipFault, WriteFault}
+use Rattle.std.specs.Prelude.{take, drop}
 use Rattle.std.proofs.lemmas.List.{take-append-drop}
-use Rattle.host_edge.specs.Views.{SinkView, Known, AppendsPart}
-use Rattle.faults.specs.Counts.{Rose}
-use Rattle.dram_model.specs.Chip.{Event}
-use Rattle.transpose_unit.specs.Stopped.{StoppedWithin}
-use Rattle.dram_model.specs.View.{ChipView, Did}
-use Rattle.wave_model.specs.Schedule.{Queues, WaveJob}
-use Rattle.uprog_ctl.specs.Waves.{StoppedAmong}
-use Rattle.bbop_isa.specs.Forms.{Instruction}
-use Rattle.bbop_isa.specs.Forms.{Init, Bbop, Load, Fill, Print, Free, Order}
-use Rattle.machine_model.specs.declared.Reply.{Reply}
-use Rattle.machine_model.specs.Pieces.{Piece, Wave, jobs_of, piece_of}
-use Rattle.machine_model.specs.Pieces as piece
-use Rattle.machine_model.specs.Refusals.{refusal}
-use Rattle.machine_model.specs.Report.{line}
-use Rattle.machine_model.specs.Report.Said.{Answered}
-use Rattle.machine_model.specs.Script.{is_bbop}
 use Rattle.machine_model.specs.Steps.{job_of}
-use Rattle.object_steps.specs.declared.fault.StepFault.{StepFault}
-use Rattle.object_steps.specs.declared.fault.StepFault.TheVariants.{ChipFault, WriteFault}
+use Rattle.machine_model.specs.Pieces as piece
 use Rattle.sim_machine.specs.declared.machine.Machine.{Machine}
 use Rattle.sim_machine.specs.Machine.{banks_by, events_by, geometry_of, is_print, reply_line, lines_of}
 use Rattle.sim_machine.specs.Machine.{operations_by, queues_by, reads_by}

@@ -1,12 +1,7 @@
 -- What follows from what comes of an instruction.
-use Rattle.std.proofs.Common.{◌≡◌, ℕ}
-use Rattle.std.specs.Prelude.{Result, Ok, Err, IfOk, OnOk, OnErr, IsErrOf}
-use Rattle.host_edge.specs.Views.{SinkView}
-use Rattle.dram_model.specs.View.{ChipView}
-use Rattle.bbop_isa.specs.Forms.{Instruction}
-use Rattle.machine_model.specs.declared.Reply.{Reply}
-use Rattle.object_steps.specs.declared.fault.StepFault.{StepFault}
-use Rattle.object_steps.specs.declared.fault.StepFault.TheVariants.{ChipFault, WriteFault}
+use Rattle.sim_machine.proofs.Common.{◌≡◌, ℕ, Result, Ok, Err, IfOk, OnOk, OnErr, IsErrOf, SinkView}
+use Rattle.sim_machine.proofs.Common.{ChipView, Instruction, Reply, StepFault, ChipFault}
+use Rattle.sim_machine.proofs.Common.{WriteFault}
 use Rattle.sim_machine.specs.declared.machine.Machine.{Machine}
 use Rattle.sim_machine.specs.Machine.{GoesOn, reply_of}
 use Rattle.sim_machine.specs.Outcome.{Comes, Stepped, StoppedByChip, StoppedBySink}

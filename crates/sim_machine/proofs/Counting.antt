@@ -1,9 +1,7 @@
 -- What a microprogram counts.
-use Rattle.std.proofs.Common.{◌≡◌}
-use Rattle.std.specs.Prelude.{Ok}
-use Rattle.uprog_code.specs.declared.walker.Counts.{Counts}
-use Rattle.uprog_code.specs.Machine.{Trace, Ended, Stuck, issues_of, HasEnded}
-use Rattle.uprog_code.specs.Count.{walked, counts_of}
+use Rattle.sim_machine.proofs.Common.{◌≡◌, Ok, Counts, issues_of, walked}
+use Rattle.uprog_code.specs.Machine.{Trace, Ended, Stuck, HasEnded}
+use Rattle.uprog_code.specs.Count.{counts_of}
 
 pub counts_are : (t : Trace) (counts : Counts) → walked t ≡ Ok counts
     → counts_of (issues_of t) ≡ counts

@@ -1,8 +1,8 @@
 -- The entry of a name, by its place.
-use Rattle.std.proofs.Common.{◌≡◌, ℕ, Bool, true, false, cond, List, length, refl, sym, ◌∙◌, ap}
-use Rattle.std.proofs.Common.{Some, None, arith}
-use Rattle.std.specs.Prelude.{nat_lt, slice_get, position}
-use Rattle.std.specs.List.{find, position_or_len}
+use Rattle.sim_machine.proofs.Common.{◌≡◌, ℕ, Bool, true, false, cond, List, length, refl, sym, ◌∙◌}
+use Rattle.sim_machine.proofs.Common.{ap, Some, None, arith, nat_lt, slice_get, find}
+use Rattle.std.specs.Prelude.{position}
+use Rattle.std.specs.List.{position_or_len}
 use Rattle.std.proofs.lemmas.List.Folds.{find_at}
 use Rattle.std.proofs.lemmas.Option.{slice_get_past}
 

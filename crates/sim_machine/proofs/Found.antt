@@ -1,22 +1,14 @@
 -- Where a condition on operands holds first.
-use Rattle.std.proofs.Common.{◌≡◌, ℕ, ◌+◌, Bool, false, List, [], ◌∷◌}
-use Rattle.std.proofs.Common.{◌++◌, ◌==◌, true, length, map, zip, Some, None}
-use Rattle.std.specs.Prelude.{Option, Result, Ok, Err, IfErr}
-use Rattle.uprog_code.specs.Shape.{results}
-use Rattle.object_alloc.specs.Listed.{Named}
-use Rattle.bbop_isa.specs.declared.instr.Place.{Place}
-use Rattle.machine_model.specs.Routines.{Routine}
-use Rattle.machine_model.specs.Refusals.{first, operand_conditions, grant_conditions}
-use Rattle.machine_model.specs.Refusals.{bbop_conditions}
-use Rattle.std.proofs.Common.{refl, sym, ◌∙◌, ap, position}
-use Rattle.std.specs.Prelude.{if◌then◌else◌}
-use Rattle.std.specs.Option.{option_map}
-use Rattle.machine_model.specs.declared.Why.{Why}
+use Rattle.sim_machine.proofs.Common.{◌≡◌, ℕ, ◌+◌, Bool, false, List, [], ◌∷◌, ◌++◌, ◌==◌, true}
+use Rattle.sim_machine.proofs.Common.{length, map, Some, None, Option, Result, Ok, Err, results}
+use Rattle.sim_machine.proofs.Common.{Named, Place, Routine, first, operand_conditions}
+use Rattle.sim_machine.proofs.Common.{bbop_conditions, refl, sym, ◌∙◌, ap, option_map, Why}
+use Rattle.sim_machine.proofs.Common.{is_misfit, look_up-some, Kind, Object}
+use Rattle.std.proofs.Common.{zip, position}
+use Rattle.std.specs.Prelude.{IfErr, if◌then◌else◌}
+use Rattle.machine_model.specs.Refusals.{grant_conditions, at_place}
+use Rattle.machine_model.proofs.First.{at_place-map}
 use Rattle.machine_model.specs.declared.Why.TheVariants as why
-use Rattle.machine_model.specs.Refusals.{at_place, is_misfit}
-use Rattle.machine_model.proofs.First.{at_place-map, look_up-some}
-use Rattle.op_text.specs.declared.tree.Kind.{Kind}
-use Rattle.object_alloc.specs.declared.table.Object.{Object}
 
 map_map : {X Y Z : Type 0} (f : Y → Z) (h : X → Y) (xs : List X)
     → map f (map h xs) ≡ map (λ x. f (h x)) xs

@@ -1,39 +1,28 @@
 -- A bbop that is granted.
-use Rattle.std.proofs.Common.{◌≡◌, ℕ, Bool, true, false, cond, List}
-use Rattle.std.proofs.Common.{[], ◌∷◌, map, length, refl, sym, ◌∙◌, ap, subst, arith, Some}
-use Rattle.std.proofs.Common.{None}
-use Rattle.std.specs.Prelude.{All, Option, Ok, unwrap_or, ◌||◌, ◌<◌, ◌≤◌}
-use Rattle.std.specs.List.{find}
-use Rattle.std.specs.Option.{option_map}
-use Rattle.std.specs.Str.{bytes_eq}
+use Rattle.sim_machine.proofs.Common.{◌≡◌, ℕ, Bool, true, false, cond, List, [], ◌∷◌, map, length}
+use Rattle.sim_machine.proofs.Common.{refl, sym, ◌∙◌, ap, subst, arith, Some, None, All, Option, Ok}
+use Rattle.sim_machine.proofs.Common.{◌||◌, find, option_map, bytes_eq, Geometry, Command, WaveJob}
+use Rattle.sim_machine.proofs.Common.{Counts, walked, BoundJob, CanRun, wave_job, Microprogram}
+use Rattle.sim_machine.proofs.Common.{issues_of, Object, Named, IsTable, limit_of, has_name}
+use Rattle.sim_machine.proofs.Common.{IsObject, Routine, routine_of, first, bbop_conditions}
+use Rattle.sim_machine.proofs.Common.{rows_of, srcs_in, Place, Kind}
+use Rattle.std.specs.Prelude.{unwrap_or, ◌<◌, ◌≤◌}
 use Rattle.std.proofs.lemmas.List.Elements.{All-head, All-tail}
-use Rattle.dram_model.specs.declared.geometry.Geometry.{Geometry}
 use Rattle.bit_rows.specs.declared.TheConstants.{WIDTH_MAX}
-use Rattle.dram_model.specs.declared.address.Command.{Command}
-use Rattle.wave_model.specs.Schedule.{WaveJob}
-use Rattle.uprog_code.specs.declared.walker.Counts.{Counts}
-use Rattle.uprog_code.specs.Count.{walked}
 use Rattle.uprog_code.specs.Legal.{IsLegalCode}
-use Rattle.uprog_ctl.specs.Waves.{BoundJob, CanRun, wave_job}
 use Rattle.uprog_code.specs.declared.binding.Binding.{Binding}
-use Rattle.uprog_code.specs.Shape.{Microprogram, need}
-use Rattle.uprog_code.specs.Machine.{trace, issues_of}
+use Rattle.uprog_code.specs.Shape.{need}
+use Rattle.uprog_code.specs.Machine.{trace}
 use Rattle.uprog_code.specs.Bound.{Bound, bound, bound_of}
 use Rattle.uprog_code.specs.Fits.{Fits}
-use Rattle.object_alloc.specs.declared.table.Object.{Object}
 use Rattle.object_alloc.specs.Free.{free}
-use Rattle.object_alloc.specs.Listed.{Named, IsTable, limit_of, has_name, objects_of}
-use Rattle.object_alloc.specs.Spelling.{IsObject}
+use Rattle.object_alloc.specs.Listed.{objects_of}
 use Rattle.machine_model.specs.Columns.{segments}
-use Rattle.machine_model.specs.Routines.{Routine, routine_of}
-use Rattle.machine_model.specs.Refusals.{nothing, object_named, first, bbop_conditions}
-use Rattle.machine_model.specs.Refusals.{rows_of, dsts_in, srcs_in}
-use Rattle.bbop_isa.specs.declared.instr.Place.{Place}
+use Rattle.machine_model.specs.Refusals.{nothing, object_named, dsts_in}
 use Rattle.object_steps.specs.Objects.{FitsOn}
 use Rattle.object_steps.proofs.Found.{part_fits}
 use Rattle.machine_model.specs.Steps.{Held, table_of, base_for, binding}
 use Rattle.machine_model.proofs.Facts.{AreOperands, none, more, good}
-use Rattle.op_text.specs.declared.tree.Kind.{Kind}
 use Rattle.machine_model.proofs.Bbops.{binding_fits, first_operand}
 use Rattle.sim_machine.specs.declared.refusal.Grant.{Grant}
 use Rattle.sim_machine.specs.Granted.{IsGranted, granted_job}

@@ -1,9 +1,6 @@
 -- Machines that differ in little.
-use Rattle.std.proofs.Common.{◌≡◌, ◌∙◌, List, ap, refl, subst}
-use Rattle.uprog_code.specs.Shape.{Microprogram}
-use Rattle.object_alloc.specs.Listed.{Named}
-use Rattle.wave_model.specs.Schedule.{Turn}
-use Rattle.object_steps.specs.Objects.{LiesOn}
+use Rattle.sim_machine.proofs.Common.{◌≡◌, ◌∙◌, List, ap, refl, subst, Microprogram, Named, Turn}
+use Rattle.sim_machine.proofs.Common.{LiesOn}
 use Rattle.sim_machine.specs.declared.machine.Machine.{Machine}
 use Rattle.sim_machine.specs.declared.machine.Machine.TheInside.{Inside}
 use Rattle.sim_machine.specs.Machine.{IsLaidOut, GoesOn, table_in, turn_in}

@@ -1,3 +1,4 @@
+pub mod Common
 pub mod Found
 mod Listing
 pub mod Keeping

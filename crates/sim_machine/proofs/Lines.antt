@@ -1,13 +1,8 @@
 -- Lines that are put one after another.
-use Rattle.std.proofs.Common.{◌≡◌, ℕ, zero, suc, ◌+◌, ◌<◌, List, [], ◌∷◌, ◌++◌, length, map, take}
-use Rattle.std.proofs.Common.{drop, get_or, sym, ◌∙◌, ap, subst, arith, append_assoc}
-use Rattle.std.proofs.Common.{append-nil}
-use Rattle.std.specs.Prelude.{Option, Result, Ok, Err, OnErr}
-use Rattle.host_edge.specs.Views.{Known, AppendsPart}
-use Rattle.host_edge.proofs.Tells.{Known-trans}
-use Rattle.machine_model.specs.declared.Reply.{Reply}
-use Rattle.machine_model.specs.Report.{line, lines}
-use Rattle.machine_model.specs.Report.Said.{Answered}
+use Rattle.sim_machine.proofs.Common.{◌≡◌, ℕ, zero, suc, ◌+◌, ◌<◌, List, [], ◌∷◌, ◌++◌, length, map}
+use Rattle.sim_machine.proofs.Common.{take, drop, get_or, sym, ◌∙◌, ap, subst, arith, append_assoc}
+use Rattle.sim_machine.proofs.Common.{append-nil, Option, Result, Ok, Err, OnErr, Known}
+use Rattle.sim_machine.proofs.Common.{AppendsPart, Known-trans, Reply, line, lines, Answered}
 
 abbrev pub reply_lines : ℕ → List Reply → List ℕ
 reply_lines n rs = lines n (map Answered rs)

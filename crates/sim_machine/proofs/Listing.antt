@@ -1,16 +1,15 @@
 -- A machine's table is read again from the bytes that spell it.
-use Rattle.std.proofs.Common.{◌≡◌, ℕ, ◌+◌, ◌*◌, true, List, ◌++◌, length, Ok, sym, ap, ◌∙◌, arith}
-use Rattle.std.specs.Prelude.{All, flat_map}
+use Rattle.sim_machine.proofs.Common.{◌≡◌, ℕ, ◌+◌, ◌*◌, true, List, ◌++◌, length, sym, ap, ◌∙◌}
+use Rattle.sim_machine.proofs.Common.{arith, All, flat_map, Geometry, LiesOn}
+use Rattle.std.proofs.Common.{Ok}
 use Rattle.std.specs.Int.{w16, to_le_bytes}
 use Rattle.std.proofs.lemmas.List.{append-nil, length-append, drop_all}
-use Rattle.dram_model.specs.declared.geometry.Geometry.{Geometry}
 use Rattle.text_lex.specs.Spelled.{fits_name}
 use Rattle.object_alloc.specs.Listed.{Listing}
 use Rattle.object_alloc.specs.Reading.{table_at}
 use Rattle.object_alloc.specs.Spelling.{object_bytes, table_bytes}
 use Rattle.object_alloc.proofs.Exact.{objects_size}
 use Rattle.object_alloc.proofs.Images.{table_again}
-use Rattle.object_steps.specs.Objects.{LiesOn}
 
 pub table_read : (g : Geometry) (table : Listing) → LiesOn g table
     → All (λ named. fits_name named.0 ≡ true) table.pairs

@@ -1,30 +1,15 @@
 -- What comes of a print.
-use Rattle.std.proofs.Common.{◌≡◌, ℕ, ◌≤◌, List, [], ◌++◌, refl, sym, ◌∙◌, ap, subst, append-nil}
-use Rattle.std.proofs.Common.{arith, cond, None, Some}
-use Rattle.std.specs.Prelude.{Option, Result, Ok, Err, OnErr, IsErrOf, is_none}
-use Rattle.host_edge.specs.Views.{SinkView, Known, AppendsPart}
-use Rattle.host_edge.proofs.Tells.{Known-trans}
-use Rattle.faults.specs.Counts.{Rose}
-use Rattle.transpose_unit.specs.Stopped.{StoppedWithin}
-use Rattle.dram_model.specs.View.{ChipView, DidRead}
-use Rattle.dram_model.specs.Elements.{FailedBelow}
-use Rattle.uprog_code.specs.declared.walker.Counts.{Counts}
-use Rattle.bbop_isa.specs.declared.instr.Place.{Place}
-use Rattle.bbop_isa.specs.Forms.{Print}
-use Rattle.machine_model.specs.declared.Reply.{Reply}
-use Rattle.machine_model.specs.declared.Reply.TheVariants.{Done, Refused}
-use Rattle.machine_model.specs.declared.Why.{Why}
-use Rattle.machine_model.specs.Pieces.{piece_of}
-use Rattle.machine_model.specs.Refusals.{refusal}
-use Rattle.object_alloc.specs.Listed.{Named}
-use Rattle.machine_model.specs.Report.{line, place_text, said_of}
-use Rattle.machine_model.specs.Report.Said.{Answered, Printed}
-use Rattle.machine_model.specs.Script.{rows_printed}
-use Rattle.machine_model.specs.Steps.{if_done, reply_by}
-use Rattle.object_steps.specs.Lines.{DidReadAtMost, printed_line}
-use Rattle.object_steps.specs.declared.fault.StepFault.{StepFault}
-use Rattle.object_steps.specs.declared.fault.StepFault.TheVariants.{ChipFault, WriteFault}
-use Rattle.wave_model.specs.Schedule.{Turn}
+use Rattle.sim_machine.proofs.Common.{◌≡◌, ℕ, ◌≤◌, List, [], ◌++◌, refl, sym, ◌∙◌, ap, subst}
+use Rattle.sim_machine.proofs.Common.{append-nil, arith, cond, None, Some, Option, Result, Ok, Err}
+use Rattle.sim_machine.proofs.Common.{OnErr, IsErrOf, is_none, SinkView, Known, AppendsPart}
+use Rattle.sim_machine.proofs.Common.{Known-trans, Rose, StoppedWithin, ChipView, DidRead}
+use Rattle.sim_machine.proofs.Common.{FailedBelow, Counts, Place, Print, Reply, Done, Refused, Why}
+use Rattle.sim_machine.proofs.Common.{piece_of, refusal, Named, line, said_of, Answered}
+use Rattle.sim_machine.proofs.Common.{rows_printed, if_done, reply_by, DidReadAtMost, StepFault}
+use Rattle.sim_machine.proofs.Common.{ChipFault, WriteFault, Turn}
+use Rattle.machine_model.specs.Report.{place_text}
+use Rattle.machine_model.specs.Report.Said.{Printed}
+use Rattle.object_steps.specs.Lines.{printed_line}
 use Rattle.sim_machine.specs.declared.machine.Machine.{Machine}
 use Rattle.sim_machine.specs.Machine.{banks_by, events_by, geometry_of, reply_line}
 use Rattle.sim_machine.specs.Machine.{operations_by}

@@ -1,28 +1,19 @@
 -- By how much the counters rise in a piece of a script.
-use Rattle.std.proofs.Common.{◌≡◌, ℕ, ◌+◌, ◌*◌, ◌<◌, ◌≤◌, List, length, map, refl, ◌∙◌, ap, subst}
-use Rattle.std.proofs.Common.{sym}
-use Rattle.std.proofs.Common.{arith, add-zero, true, false, cond, Bool, [], ◌∷◌}
+use Rattle.sim_machine.proofs.Common.{◌≡◌, ℕ, ◌+◌, ◌*◌, ◌<◌, ◌≤◌, List, length, map, refl, ◌∙◌, ap}
+use Rattle.sim_machine.proofs.Common.{subst, sym, arith, add-zero, true, false, cond, Bool, [], ◌∷◌}
+use Rattle.sim_machine.proofs.Common.{mul-le-mul_right, AllByRecursion, Geometry, Counters}
+use Rattle.sim_machine.proofs.Common.{all_counted, with_reads, Named, Instruction, IsPlain}
+use Rattle.sim_machine.proofs.Common.{Routines, Piece, Wave, piece_of, is_bbop, rows_printed}
 use Rattle.std.proofs.lemmas.List.{length-map}
-use Rattle.std.proofs.Math.Nat.{mul-le-mul_right}
-use Rattle.std.specs.List.{AllByRecursion}
-use Rattle.dram_model.specs.declared.geometry.Geometry.{Geometry}
-use Rattle.dram_model.specs.declared.dram.Counters.{Counters}
-use Rattle.dram_model.specs.Chip.{all_counted}
-use Rattle.dram_model.specs.View.{with_reads}
 use Rattle.uprog_code.specs.declared.TheConstants.{WALK_MAX}
-use Rattle.object_alloc.specs.Listed.{Named}
-use Rattle.bbop_isa.specs.Forms.{Instruction}
-use Rattle.machine_model.specs.Agrees.{IsPlain}
 use Rattle.machine_model.specs.Laws.{AreFew}
-use Rattle.machine_model.specs.Routines.{Routines}
-use Rattle.machine_model.specs.Pieces.{AreBbops, IsPiece, Piece, Wave, instrs_in, piece_of}
-use Rattle.machine_model.specs.Pieces as piece
-use Rattle.machine_model.specs.Script.{counters_at_end, is_bbop, rows_printed}
-use Rattle.machine_model.specs.Script.{sum_done}
+use Rattle.machine_model.specs.Pieces.{AreBbops, IsPiece, instrs_in}
+use Rattle.machine_model.specs.Script.{counters_at_end, sum_done}
 use Rattle.machine_model.proofs.Bounds.{geometry_parts, work_is_bounded}
 use Rattle.machine_model.proofs.Pieces.{piece_counted}
 use Rattle.machine_model.proofs.Tables.{fits_banks}
 use Rattle.object_steps.specs.Objects.{RisesAtMost}
+use Rattle.machine_model.specs.Pieces as piece
 use Rattle.sim_machine.specs.declared.machine.Machine.{Machine}
 use Rattle.sim_machine.specs.Machine.{IsLaidOut, events_by, geometry_of, operations_by, program_of}
 use Rattle.sim_machine.specs.Machine.{reads_by, table_in, turn_in}

@@ -1,17 +1,12 @@
 -- Rows among all rows, and events row by row.
-use Rattle.std.proofs.Common.{◌≡◌, ℕ, zero, suc, ◌+◌, ◌*◌, ◌<◌, ◌≤◌, List, [], ◌∷◌, ◌++◌, map}
-use Rattle.std.proofs.Common.{length, take, drop, refl, sym, ◌∙◌, ap, subst, arith, append_assoc}
-use Rattle.std.proofs.Common.{append-nil, add-one, length-append, length-take, length-drop}
-use Rattle.std.specs.Prelude.{flat_map}
-use Rattle.std.specs.List.{range_with_len}
-use Rattle.std.proofs.Math.Nat.{suc-mul, mul-suc, mul-le-mul_left, mul-le-mul_right, mul_comm}
-use Rattle.std.proofs.Math.Nat.{mul_assoc}
+use Rattle.sim_machine.proofs.Common.{◌≡◌, ℕ, zero, suc, ◌+◌, ◌*◌, ◌<◌, ◌≤◌, List, [], ◌∷◌, ◌++◌}
+use Rattle.sim_machine.proofs.Common.{map, length, take, drop, refl, sym, ◌∙◌, ap, subst, arith}
+use Rattle.sim_machine.proofs.Common.{append_assoc, append-nil, flat_map, range_with_len}
+use Rattle.sim_machine.proofs.Common.{mul-le-mul_right, Event, Geometry, Named, ChipView, Did}
+use Rattle.std.proofs.Common.{add-one, length-append, length-take, length-drop}
+use Rattle.std.proofs.Math.Nat.{suc-mul, mul-suc, mul-le-mul_left, mul_comm, mul_assoc}
 use Rattle.std.proofs.lemmas.List.FromFn.{map-range_with_len_more}
-use Rattle.dram_model.specs.Chip.{Event}
-use Rattle.dram_model.specs.declared.geometry.Geometry.{Geometry}
-use Rattle.object_alloc.specs.Listed.{Named}
 use Rattle.object_alloc.specs.Spelling.{Rows, head_bytes, rows_bytes, image_bytes}
-use Rattle.dram_model.specs.View.{ChipView, Did}
 use Rattle.dram_model.proofs.EventLaws.{Did-more}
 
 -- one more row

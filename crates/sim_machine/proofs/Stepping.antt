@@ -1,46 +1,29 @@
 -- What comes of an instruction that no other stands beside.
-use Rattle.std.proofs.Common.{◌≡◌, ℕ, ◌+◌, Bool, true, false, cond, List, [], ◌∷◌, ◌++◌, refl, sym}
-use Rattle.std.proofs.Common.{◌∙◌, ap, subst, append-nil, add-zero, Some, None}
-use Rattle.std.specs.Prelude.{Option, not, ◌||◌}
+use Rattle.sim_machine.proofs.Common.{◌≡◌, ℕ, ◌+◌, Bool, true, false, cond, List, [], ◌∷◌, ◌++◌}
+use Rattle.sim_machine.proofs.Common.{refl, sym, ◌∙◌, ap, subst, append-nil, add-zero, Some, None}
+use Rattle.sim_machine.proofs.Common.{Option, ◌||◌, bytes_eq, SinkView, Known, AppendsPart, Rose}
+use Rattle.sim_machine.proofs.Common.{Counters, Event, all_counted, StoppedWithin, ChipView, Did}
+use Rattle.sim_machine.proofs.Common.{with_reads, FailedBelow, Object, Named, has_name, without}
+use Rattle.sim_machine.proofs.Common.{Geometry, Place, Instruction, Init, Bbop, Load, Fill, Print}
+use Rattle.sim_machine.proofs.Common.{Free, Order, Reply, Done, Refused, Why, Counts, Routines}
+use Rattle.sim_machine.proofs.Common.{Alone, piece_of, refusal, line, said_of, Answered, is_bbop}
+use Rattle.sim_machine.proofs.Common.{if_done, reply_by, reply_to, events_alone, look_up-some}
+use Rattle.std.proofs.lemmas.Bool.{or_parts}
+use Rattle.std.specs.Prelude.{not}
 use Rattle.std.specs.Option.{is_some}
-use Rattle.std.specs.Str.{bytes_eq}
 use Rattle.std.proofs.lemmas.Slice.Eq.{bytes_eq-Decides}
-use Rattle.host_edge.specs.Views.{SinkView, Known, AppendsPart}
 use Rattle.host_edge.proofs.Tells.{Known-same}
-use Rattle.faults.specs.Counts.{Rose}
-use Rattle.dram_model.specs.declared.dram.Counters.{Counters}
-use Rattle.dram_model.specs.Chip.{Event, all_counted}
 use Rattle.dram_model.proofs.EventLaws.{Grew-none}
-use Rattle.transpose_unit.specs.Stopped.{StoppedWithin}
-use Rattle.dram_model.specs.View.{ChipView, Did, with_reads}
-use Rattle.dram_model.specs.Elements.{FailedBelow}
-use Rattle.object_alloc.specs.declared.table.Object.{Object}
-use Rattle.object_alloc.specs.Listed.{Named, has_name, look_up, without}
-use Rattle.dram_model.specs.declared.geometry.Geometry.{Geometry}
-use Rattle.bbop_isa.specs.declared.instr.Place.{Place}
-use Rattle.bbop_isa.specs.Forms.{Instruction}
-use Rattle.bbop_isa.specs.Forms.{Init, Bbop, Load, Fill, Print, Free, Order}
-use Rattle.machine_model.specs.declared.Reply.{Reply}
-use Rattle.machine_model.specs.declared.Reply.TheVariants.{Done, Refused}
-use Rattle.machine_model.specs.declared.Why.{Why}
-use Rattle.machine_model.specs.declared.Why.TheVariants as why
-use Rattle.uprog_code.specs.declared.walker.Counts.{Counts}
+use Rattle.object_alloc.specs.Listed.{look_up}
 use Rattle.machine_model.proofs.Tables.{made}
-use Rattle.machine_model.specs.Routines.{Routines}
-use Rattle.machine_model.specs.Pieces.{Alone, piece_of}
+use Rattle.machine_model.specs.Steps.{table_after}
+use Rattle.machine_model.specs.declared.Why.TheVariants as why
 use Rattle.machine_model.specs.Pieces as piece
-use Rattle.machine_model.specs.Refusals.{refusal}
-use Rattle.machine_model.specs.Report.{line, said_of}
-use Rattle.machine_model.specs.Report.Said.{Answered}
-use Rattle.machine_model.specs.Script.{is_bbop}
-use Rattle.machine_model.specs.Steps.{if_done, reply_by, reply_to, table_after}
-use Rattle.object_steps.specs.Objects.{events_alone}
 use Rattle.sim_machine.specs.declared.machine.Machine.{Machine}
 use Rattle.sim_machine.specs.Machine.{GoesOn, banks_by, events_by, geometry_of, is_print}
 use Rattle.sim_machine.specs.Machine.{reply_line}
 use Rattle.sim_machine.specs.Machine.{operations_by, reads_by, reply_of, moved_table, table_in}
 use Rattle.sim_machine.specs.Machine.{leaves_table, turn_by_piece, turn_in}
-use Rattle.machine_model.proofs.First.{look_up-some}
 use Rattle.sim_machine.specs.Outcome.{Stepped, StoppedByChip, StoppedBySink}
 use Rattle.sim_machine.specs.Steps.{DidAndRead}
 use Rattle.sim_machine.proofs.Keeping.{goes_to}
@@ -171,7 +154,7 @@ leaves (Print place) e = absurd (cc)
 leaves (Free name) e = absurd (cc)
 leaves (Order o) e = (refl, refl)
 
--- and neither leave other tables
+-- and or_parts leave other tables
 pub if_same : {S : Type 0} (r : Option Why) (x : S) → if_done r x x ≡ x
 if_same None x = refl
 if_same (Some why) x = refl
@@ -220,11 +203,6 @@ pub free_refused : (g : Geometry) (operations : Routines) (table : List Named) (
 free_refused g operations table name e =
     freed g operations table name false (ap is_some e ∙ look_up-some table name)
 
--- an object that is taken away again
-neither : (a b : Bool) → (a || b) ≡ false → (a ≡ false) × (b ≡ false)
-neither true b e = absurd (cc)
-neither false b e = (refl, e)
-
 kept_first : (p : Named) (b : Bool) (xs ys : List Named) → b ≡ false → xs ≡ ys
     → cond (not b) (p ∷ xs) xs ≡ p ∷ ys
 kept_first p true xs ys e h = absurd (cc)
@@ -239,7 +217,7 @@ without_new : (table : List Named) (name : List ℕ) (o : Object) → has_name t
 without_new [] name o e =
     dropped (name, o) (bytes_eq name name) ((bytes_eq-Decides name name).1 refl)
 without_new (p ∷ table) name o e =
-    let both = neither (bytes_eq p.0 name) (has_name table name) e in
+    let both = or_parts (bytes_eq p.0 name) (has_name table name) e in
     kept_first p (bytes_eq p.0 name) _ _ both.0 (without_new table name o both.1)
 
 pub not_refused : (r : Option Why) (c d : Counts) → Done d ≡ reply_by r c → r ≡ None

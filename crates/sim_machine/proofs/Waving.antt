@@ -1,20 +1,18 @@
 -- A wave of the jobs that bbops are granted.
-use Rattle.std.proofs.Common.{◌≡◌, ◌≢◌, ℕ, zero, suc, ◌<◌, ◌≤◌, Bool, true, false, cond, List, []}
-use Rattle.std.proofs.Common.{◌∷◌, ◌++◌, length, map, take, drop, get_or, refl, sym, ◌∙◌, ap, subst}
-use Rattle.std.proofs.Common.{arith, Some}
-use Rattle.std.specs.Prelude.{nat_lt, nat_eq, slice_get}
-use Rattle.std.specs.List.{AllByRecursion}
-use Rattle.dram_model.specs.declared.geometry.Geometry.{Geometry}
-use Rattle.dram_model.specs.declared.address.Command.{Command}
-use Rattle.dram_model.specs.Chip.{Banks, Event, after, happens, bank_of, on_bank}
+use Rattle.sim_machine.proofs.Common.{◌≡◌, ℕ, zero, suc, ◌<◌, ◌≤◌, Bool, true, false, cond, List}
+use Rattle.sim_machine.proofs.Common.{[], ◌∷◌, ◌++◌, length, map, take, drop, get_or, refl, sym}
+use Rattle.sim_machine.proofs.Common.{◌∙◌, ap, subst, arith, Some, nat_lt, slice_get}
+use Rattle.sim_machine.proofs.Common.{AllByRecursion, Geometry, Command, Banks, Event, ChipView}
+use Rattle.sim_machine.proofs.Common.{Did, FailedBelow, BoundJob, CanRun, StoppedAmong, wave_job}
+use Rattle.sim_machine.proofs.Common.{WaveJob, Queues, Turn}
+use Rattle.std.proofs.Common.{◌≢◌}
+use Rattle.std.specs.Prelude.{nat_eq}
+use Rattle.dram_model.specs.Chip.{after, happens, bank_of, on_bank}
 use Rattle.dram_model.specs.Chip.Event.{Row}
 use Rattle.dram_model.specs.Events.{row_events}
-use Rattle.dram_model.specs.View.{ChipView, Did}
-use Rattle.dram_model.specs.Elements.{FailedBelow}
-use Rattle.uprog_ctl.specs.Waves.{BoundJob, CanRun, StoppedAmong, job_queues, wave_events, wave_job}
-use Rattle.wave_model.specs.Schedule.{WaveJob, Queues, Turn, events_of_picks, in_turn, picked}
-use Rattle.wave_model.specs.Schedule.{queues}
-use Rattle.wave_model.specs.Schedule.{last_state, whole_picks, without_next}
+use Rattle.uprog_ctl.specs.Waves.{job_queues, wave_events}
+use Rattle.wave_model.specs.Schedule.{events_of_picks, in_turn, picked, queues, last_state}
+use Rattle.wave_model.specs.Schedule.{whole_picks, without_next}
 
 -- what holds of all holds of one
 pub all_at : {X Y : Type 0} (P : Y → Type 0) (f : X → Y) (xs : List X) (i : ℕ) (x : X)

@@ -1,22 +1,15 @@
 -- The file of a compiled program is taken by each command that loads a program file.
-use Rattle.std.proofs.Common.{◌≡◌, ◌+◌, ◌*◌, ◌≤◌, List, [], ◌∷◌, ◌++◌, length, map}
-use Rattle.std.proofs.Common.{refl, sym, ◌∙◌, ap, subst, inr, arith}
-use Rattle.std.specs.Prelude.{flat_map}
-use Rattle.std.specs.Int.{to_le_bytes, w16}
-use Rattle.std.specs.List.{AllByRecursion}
-use Rattle.std.proofs.lemmas.List.{length-append}
-use Rattle.op_text.specs.Language.{Operation}
+use Rattle.simdram_cli.proofs.Common.{◌≡◌, ◌+◌, ◌*◌, ◌≤◌, List, [], ◌∷◌, ◌++◌, length, map, refl}
+use Rattle.simdram_cli.proofs.Common.{sym, ◌∙◌, ap, subst, inr, arith, flat_map, to_le_bytes, w16}
+use Rattle.simdram_cli.proofs.Common.{AllByRecursion, length-append, Operation, Microprogram}
+use Rattle.simdram_cli.proofs.Common.{HasEnded, trace, IsProgram, TextOp, ImplementsAll, text_op}
+use Rattle.simdram_cli.proofs.Common.{code_bytes, directory_bytes, opening_bytes, program_bytes}
+use Rattle.simdram_cli.proofs.Common.{length-code, read}
 use Rattle.op_text.specs.Spelling.{Each}
 use Rattle.op_rules.specs.Meets.{OperationMeets, OpsMeet}
 use Rattle.uprog_code.specs.declared.code.Uop.{Uop}
 use Rattle.uprog_code.specs.declared.code.Uop.TheVariants.{Done}
-use Rattle.uprog_code.specs.Shape.{Microprogram, Shape}
-use Rattle.uprog_code.specs.Machine.{HasEnded, trace}
-use Rattle.uprog_code.specs.Programs.{IsProgram}
-use Rattle.uprog_code.specs.Texts.{TextOp, ImplementsAll, text_op}
-use Rattle.uprog_bin.specs.Spelling.{code_bytes, directory_bytes, opening_bytes, program_bytes}
-use Rattle.uprog_bin.proofs.Again.{length-code}
-use Rattle.uprog_bin.proofs.Whole.{read}
+use Rattle.uprog_code.specs.Shape.{Shape}
 use Rattle.uprog_gen.specs.Programs.{AreCompiled, IsCompiled, together}
 use Rattle.simdram_cli.specs.Accepted.{instructions, IsNeverStuck, IsTaken}
 use Rattle.simdram_cli.specs.Programs.{program_or_refusal}

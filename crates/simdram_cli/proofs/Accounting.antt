@@ -1,24 +1,12 @@
 -- The facts of an account: its statuses, files, memory, and what one that is done has sent.
-use Rattle.std.proofs.Common.{◌≡◌, ℕ, List, [], ◌∷◌, ◌++◌, Option}
-use Rattle.std.proofs.Common.{append-nil}
-use Rattle.std.proofs.Common.{None, refl, sym, ◌∙◌, subst}
-use Rattle.std.specs.Prelude.{Result, Err}
-use denote.Ref.{Bor}
-use Rattle.dram_model.specs.View.{ChipView}
-use Rattle.host_edge.specs.Views.{Files, FolderView, SinkView, Known}
-use Rattle.op_text.specs.Language.{Operation}
-use Rattle.op_text.specs.OpsOf.{IsOpsOf}
-use Rattle.op_print.specs.Canonical.{canonical_text}
-use Rattle.uprog_code.specs.Programs.{IsProgram}
-use Rattle.uprog_bin.specs.Spelling.{HasVersion, program_bytes}
-use Rattle.uprog_bin.specs.Opened.{File, IsProgramFile}
-use Rattle.cli_model.specs.World.{World, world}
-use Rattle.cli_model.specs.Steps.{Reason, Refusal, Take}
-use Rattle.cli_model.specs.Runs.{Runs}
-use Rattle.cli_model.proofs.Owed.{GoodFor, NotTen, TakesFirst}
-use Rattle.cli_model.specs.Faultless.{file_in}
-use Rattle.cli_model.specs.Plan.{Makes, Plan, Then}
-use Rattle.cli_model.proofs.Delivering.{IsDelivered, known_delivered}
+use Rattle.simdram_cli.proofs.Common.{◌≡◌, ℕ, List, [], ◌∷◌, ◌++◌, Option, append-nil, None, refl}
+use Rattle.simdram_cli.proofs.Common.{sym, ◌∙◌, subst, Result, Err, Bor, ChipView, Files}
+use Rattle.simdram_cli.proofs.Common.{FolderView, SinkView, Known, Operation, IsOpsOf}
+use Rattle.simdram_cli.proofs.Common.{canonical_text, IsProgram, HasVersion, program_bytes}
+use Rattle.simdram_cli.proofs.Common.{IsProgramFile, World, world, Reason, Refusal, Take, Runs}
+use Rattle.simdram_cli.proofs.Common.{GoodFor, NotTen, TakesFirst, file_in, Makes, Plan, Then}
+use Rattle.simdram_cli.proofs.Common.{IsDelivered, known_delivered}
+use Rattle.uprog_bin.specs.Opened.{File}
 use Rattle.simdram_cli.specs.declared.account.Account.{Account}
 use Rattle.simdram_cli.specs.declared.account.Account.TheVariants.{Canonical, OfProgram}
 use Rattle.simdram_cli.specs.declared.account.ProgramAccount.{ProgramAccount}

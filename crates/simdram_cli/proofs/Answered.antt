@@ -1,12 +1,7 @@
 -- How a command ends whose function went through its plan.
-use Rattle.std.proofs.Common.{◌≡◌, ℕ}
-use Rattle.std.specs.Prelude.{Result, Ok, Err}
-use Rattle.dram_model.specs.View.{ChipView}
-use Rattle.host_edge.specs.Views.{FolderView, SinkView}
-use Rattle.cli_model.specs.World.{World, world}
+use Rattle.simdram_cli.proofs.Common.{◌≡◌, ℕ, Result, Ok, Err, ChipView, FolderView, SinkView}
+use Rattle.simdram_cli.proofs.Common.{World, world, Plan, EndsBy, Runs}
 use Rattle.cli_model.specs.Status.{Tells}
-use Rattle.cli_model.specs.Plan.{Plan}
-use Rattle.cli_model.specs.Runs.{EndsBy, Runs}
 use Rattle.cli_model.proofs.Running.{plan_ends}
 use Rattle.simdram_cli.specs.declared.completion.Completion.{Completion}
 use Rattle.simdram_cli.specs.declared.stop.Stop.{Stop}

@@ -1,15 +1,10 @@
 -- OPS is compiled and PROG stored, by a plan.
-use Rattle.std.proofs.Common.{◌≡◌, ℕ, List, [], ◌∷◌, None, refl, inl, inr}
-use Rattle.std.specs.Prelude.{Result, Ok, Err}
-use Rattle.dram_model.specs.View.{ChipView}
-use Rattle.host_edge.specs.Views.{FolderView, SinkView}
-use Rattle.uprog_bin.specs.Spelling.{program_bytes}
-use Rattle.machine_model.specs.Routines.{Program}
-use Rattle.cli_model.specs.World.{World, world}
-use Rattle.cli_model.specs.Steps.{Done, Goes, Load, Reason, Refusal, Stopped, Store, Take, loading}
-use Rattle.cli_model.specs.Plan.{Plan}
-use Rattle.cli_model.specs.Runs.{Runs}
-use Rattle.cli_model.proofs.Running.{runs_made, runs_read, runs_stopped, runs_then, runs_unread}
+use Rattle.simdram_cli.proofs.Common.{◌≡◌, ℕ, List, [], ◌∷◌, None, refl, inl, inr, Result, Ok, Err}
+use Rattle.simdram_cli.proofs.Common.{ChipView, FolderView, SinkView, program_bytes, Program, World}
+use Rattle.simdram_cli.proofs.Common.{world, Done, Goes, Reason, Refusal, Stopped, Store, Take}
+use Rattle.simdram_cli.proofs.Common.{loading, Plan, Runs, runs_made, runs_stopped, runs_then}
+use Rattle.cli_model.specs.Steps.{Load}
+use Rattle.cli_model.proofs.Running.{runs_read, runs_unread}
 use Rattle.simdram_cli.specs.declared.words.TheConstants.{OPS_MAX}
 use Rattle.simdram_cli.specs.Ends.{ProgramStopped, ProgramTaken}
 use Rattle.simdram_cli.specs.Inputs.{ops_in}

@@ -1,15 +1,9 @@
 -- The facts of `compile`: its statuses, its files, its memory, and what one that is done leaves.
-use Rattle.std.proofs.Common.{◌≡◌, ℕ, List, [], ◌∷◌, ◌++◌, Option, None, refl, ◌∙◌, ap, subst}
-use Rattle.std.proofs.Common.{append-nil, inr}
-use Rattle.host_edge.specs.Views.{Files, Known}
-use Rattle.machine_model.specs.Routines.{Program}
-use Rattle.uprog_bin.specs.Spelling.{program_bytes}
-use Rattle.cli_model.specs.World.{World}
-use Rattle.cli_model.specs.Steps.{Put, Store, Take}
-use Rattle.cli_model.proofs.Owed.{GoodFor, NotTen, TakesFirst}
-use Rattle.cli_model.specs.Faultless.{file_in}
-use Rattle.cli_model.specs.Plan.{Answers, Makes, Then}
-use Rattle.cli_model.proofs.Delivering.{IsDelivered, known_delivered}
+use Rattle.simdram_cli.proofs.Common.{◌≡◌, ℕ, List, [], ◌∷◌, ◌++◌, Option, None, refl, ◌∙◌, ap}
+use Rattle.simdram_cli.proofs.Common.{subst, append-nil, inr, Files, Known, Program, program_bytes}
+use Rattle.simdram_cli.proofs.Common.{World, Put, Store, Take, GoodFor, NotTen, TakesFirst, file_in}
+use Rattle.simdram_cli.proofs.Common.{Answers, Makes, Then, IsDelivered, known_delivered, at_other}
+use Rattle.simdram_cli.proofs.Common.{at_own, bytes_differ}
 use Rattle.simdram_cli.specs.declared.words.Command.TheVariants.{Compile}
 use Rattle.simdram_cli.specs.declared.words.CompileNames.{CompileNames}
 use Rattle.simdram_cli.specs.declared.words.TheConstants.{OPS_MAX}
@@ -19,7 +13,6 @@ use Rattle.simdram_cli.specs.Ends.{IsCompiled}
 use Rattle.simdram_cli.specs.Inputs.{ops_in}
 use Rattle.simdram_cli.proofs.JobPlans.{good_file, ops_refuses}
 use Rattle.simdram_cli.proofs.Planned.{GivesOwn, IsFailing, IsOneOf, Proved, spares_by, zero_tells}
-use Rattle.cli_model.proofs.Files.{at_other, at_own, bytes_differ}
 
 pub compile_gives : (names : CompileNames) → GivesOwn (Compile names) (compile_plan names)
 compile_gives names = (

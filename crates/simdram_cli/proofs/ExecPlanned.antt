@@ -1,19 +1,10 @@
 -- The facts of `exec`: its statuses, its files, its memory, and what one that is done promises.
-use Rattle.std.proofs.Common.{◌≡◌, ℕ, List, [], ◌∷◌, ◌++◌, Option, Some, None, refl, sym, ◌∙◌, ap, subst}
-use Rattle.std.specs.Result.{result_ok}
-use Rattle.host_edge.specs.Views.{Files, Known}
-use Rattle.machine_model.specs.Report.{lines, total_line}
-use Rattle.bbop_isa.specs.Forms.{Instruction}
-use Rattle.uprog_code.specs.Programs.{IsProgram}
-use Rattle.machine_model.specs.Opened.{Image}
-use Rattle.machine_model.specs.Routines.{Program}
-use Rattle.cli_model.specs.World.{World, with_file}
-use Rattle.uprog_bin.specs.Opened.{IsProgramFile}
-use Rattle.cli_model.specs.Plan.{Makes}
+use Rattle.simdram_cli.proofs.Common.{◌≡◌, ℕ, List, [], ◌∷◌, ◌++◌, Option, Some, None, refl, sym}
+use Rattle.simdram_cli.proofs.Common.{◌∙◌, ap, subst, result_ok, Files, Known, lines, total_line}
+use Rattle.simdram_cli.proofs.Common.{Instruction, IsProgram, Image, Program, World, with_file}
+use Rattle.simdram_cli.proofs.Common.{IsProgramFile, Makes, GoodFor, NotTen, TakesFirst, file_in}
+use Rattle.simdram_cli.proofs.Common.{IsDelivered, known_delivered, at_other, at_own, bytes_differ}
 use Rattle.simdram_cli.specs.Plans.{job_plan}
-use Rattle.cli_model.proofs.Owed.{GoodFor, NotTen, TakesFirst}
-use Rattle.cli_model.specs.Faultless.{file_in}
-use Rattle.cli_model.proofs.Delivering.{IsDelivered, known_delivered}
 use Rattle.simdram_cli.specs.declared.words.Command.TheVariants.{Exec}
 use Rattle.simdram_cli.specs.declared.words.ExecNames.{ExecNames}
 use Rattle.simdram_cli.specs.declared.words.TheConstants.{PROG_MAX}
@@ -28,7 +19,6 @@ use Rattle.simdram_cli.proofs.JobPlans.{good_file, job_gives, job_good, job_take
 use Rattle.simdram_cli.proofs.Planned.{GivesOwn, IsFailing, IsOneOf, Proved, spares_by, zero_or_eight_tells}
 use Rattle.simdram_cli.proofs.Promised.{RowsDone, work_files, work_sent}
 use Rattle.simdram_cli.specs.Commands.{CanAnswer}
-use Rattle.cli_model.proofs.Files.{at_other, at_own, bytes_differ}
 
 pub exec_gives : (names : ExecNames) → GivesOwn (Exec names) (exec_plan names)
 exec_gives names =

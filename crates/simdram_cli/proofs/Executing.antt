@@ -1,26 +1,14 @@
 -- How an execution goes and ends, and what it promises.
-use Rattle.std.proofs.Common.{◌≡◌, ℕ, Bool, true, false, List, [], ◌∷◌, ◌++◌, Some}
-use Rattle.std.proofs.Common.{refl, sym, ◌∙◌, ap, subst}
-use Rattle.std.specs.Prelude.{Result, Ok, ◌||◌}
-use Rattle.std.specs.List.{AllByRecursion}
-use Rattle.dram_model.specs.Chip.{Banks, row_in}
-use Rattle.dram_model.specs.View.{ChipView}
-use Rattle.host_edge.specs.Views.{Files, Known}
-use Rattle.uprog_code.specs.Programs.{IsProgram}
-use Rattle.uprog_code.specs.Texts.{TextOp, ImplementsAll}
-use Rattle.uprog_bin.specs.Opened.{IsProgramFile}
-use Rattle.bbop_isa.specs.Forms.{Instruction}
-use Rattle.machine_model.specs.Agrees.{IsPlain}
-use Rattle.machine_model.specs.Routines.{Program, routines_in}
-use Rattle.machine_model.specs.Opened.{Image, opened}
-use Rattle.machine_model.specs.Report.{lines, total_line}
-use Rattle.machine_model.specs.Script.{banks_at_end, table_at_end}
+use Rattle.simdram_cli.proofs.Common.{◌≡◌, ℕ, Bool, true, false, List, [], ◌∷◌, ◌++◌, Some, refl}
+use Rattle.simdram_cli.proofs.Common.{sym, ◌∙◌, ap, subst, Result, Ok, AllByRecursion, Banks}
+use Rattle.simdram_cli.proofs.Common.{row_in, ChipView, Files, Known, IsProgram, TextOp}
+use Rattle.simdram_cli.proofs.Common.{ImplementsAll, IsProgramFile, Instruction, IsPlain, Program}
+use Rattle.simdram_cli.proofs.Common.{routines_in, Image, opened, lines, total_line, banks_at_end}
+use Rattle.simdram_cli.proofs.Common.{table_at_end, scripts_go_on, World, Refusal}
+use Rattle.std.specs.Prelude.{◌||◌}
 use Rattle.machine_model.specs.Steps.{is_touched}
 use Rattle.machine_model.proofs.KeptAll.{untouched_stays}
-use Rattle.machine_model.proofs.Parts.{scripts_go_on}
 use Rattle.machine_model.proofs.Tables.{table_stays}
-use Rattle.cli_model.specs.World.{World}
-use Rattle.cli_model.specs.Steps.{Refusal}
 use Rattle.simdram_cli.specs.Programs.{prog_in}
 use Rattle.simdram_cli.specs.Job.{done_status, image_by, refused_by}
 use Rattle.simdram_cli.specs.Job.{said_in, tally_by}

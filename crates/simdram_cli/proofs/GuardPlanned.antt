@@ -1,21 +1,11 @@
 -- The facts of `guard`: its statuses, its files and its memory.
-use Rattle.std.proofs.Common.{◌≡◌, ℕ, List, [], ◌∷◌, length, Option, Some, None, refl, sym, ◌∙◌, ap, subst}
-use Rattle.std.proofs.Common.{inl, inr, false, ◌⊎◌}
-use Rattle.std.specs.Prelude.{Result, Ok, Err, bytes_eq}
-use Rattle.host_edge.specs.Views.{Files}
-use Rattle.bbop_isa.specs.Forms.{Instruction}
-use Rattle.bbop_isa.specs.Script.{script_of}
-use Rattle.object_alloc.specs.Reading.{image_in}
-use Rattle.uprog_bin.specs.Spelling.{program_bytes}
-use Rattle.guard_model.specs.FlipText.{flips_of}
-use Rattle.guard_model.specs.Named.{first_long_name}
-use Rattle.guard_model.specs.Triples.{first_stranger}
-use Rattle.machine_model.specs.Opened.{Image}
-use Rattle.machine_model.specs.Routines.{Program}
-use Rattle.cli_model.specs.Steps.{Refusal, Store, Take}
-use Rattle.cli_model.proofs.Owed.{GoodFor, NotTen, TakesFirst, files_then}
-use Rattle.cli_model.specs.Faultless.{file_in}
-use Rattle.cli_model.specs.Plan.{Loads, Makes, Plan, Then}
+use Rattle.simdram_cli.proofs.Common.{◌≡◌, ℕ, List, [], ◌∷◌, length, Option, Some, None, refl, sym}
+use Rattle.simdram_cli.proofs.Common.{◌∙◌, ap, subst, inl, inr, false, ◌⊎◌, Result, Ok, Err}
+use Rattle.simdram_cli.proofs.Common.{bytes_eq, Files, Instruction, script_of, image_in}
+use Rattle.simdram_cli.proofs.Common.{program_bytes, flips_of, first_long_name, first_stranger}
+use Rattle.simdram_cli.proofs.Common.{Image, Program, Refusal, Store, Take, GoodFor, NotTen}
+use Rattle.simdram_cli.proofs.Common.{TakesFirst, files_then, file_in, Loads, Makes, Plan, Then}
+use Rattle.simdram_cli.proofs.Common.{at_other}
 use Rattle.simdram_cli.specs.declared.words.Command.TheVariants.{Guard}
 use Rattle.simdram_cli.specs.declared.words.GuardNames.{GuardNames}
 use Rattle.simdram_cli.specs.declared.words.TheConstants.{FLIPS_MAX, IMAGE_MAX, OPS_MAX, SCRIPT_MAX}
@@ -32,7 +22,6 @@ use Rattle.simdram_cli.proofs.GuardSteps.{flips_are, opened_are, short_of, tripl
 use Rattle.simdram_cli.proofs.Guarding.{AreOthers}
 use Rattle.simdram_cli.proofs.JobPlans.{good_file, ops_refuses, status_so}
 use Rattle.simdram_cli.proofs.Planned.{GivesOwn, IsFailing, IsOneOf}
-use Rattle.cli_model.proofs.Files.{at_other}
 
 pub guard_gives : (names : GuardNames) → GivesOwn (Guard names) (guard_plan names)
 guard_gives names =

@@ -1,52 +1,29 @@
 -- A guarded run that ends with 0 or 8 keeps its promises.
-use Rattle.std.proofs.Common.{◌≡◌, ℕ, ◌+◌, ◌<◌, Bool, true, false, List, [], ◌∷◌, ◌++◌, length, map}
-use Rattle.std.proofs.Common.{Option, Some, None, refl, sym, ◌∙◌, ap, subst, append-nil}
-use Rattle.std.proofs.Common.{append_assoc}
-use Rattle.std.specs.Prelude.{Result, Ok, Err}
-use Rattle.std.specs.List.{AllByRecursion}
-use Rattle.std.specs.Result.{result_ok}
-use Rattle.dram_model.specs.declared.geometry.Geometry.{Geometry}
-use Rattle.dram_model.specs.Chip.{Banks}
-use Rattle.dram_model.specs.Elements.{column_count}
-use Rattle.host_edge.specs.Views.{Files, Known}
-use Rattle.object_alloc.specs.Listed.{Named}
-use Rattle.object_alloc.specs.Spelling.{image_bytes}
-use Rattle.uprog_bin.specs.Spelling.{program_bytes}
-use Rattle.uprog_code.specs.Texts.{TextOp, ImplementsAll, text_op}
-use Rattle.bbop_isa.specs.declared.instr.ScriptFault.{ScriptFault}
-use Rattle.bbop_isa.specs.Forms.{Instruction}
-use Rattle.bbop_isa.specs.Forms.{Init, Bbop, Load as ByLoad, Fill, Print as ByPrint, Free, Order}
-use Rattle.bbop_isa.specs.Script.{script_of}
-use Rattle.machine_model.specs.Agrees.{IsPlain}
+use Rattle.simdram_cli.proofs.Common.{◌≡◌, ℕ, ◌+◌, ◌<◌, Bool, true, false, List, [], ◌∷◌, ◌++◌}
+use Rattle.simdram_cli.proofs.Common.{length, map, Option, Some, None, refl, sym, ◌∙◌, ap, subst}
+use Rattle.simdram_cli.proofs.Common.{append-nil, append_assoc, Result, Ok, Err, AllByRecursion}
+use Rattle.simdram_cli.proofs.Common.{result_ok, Geometry, Banks, column_count, Files, Known, Named}
+use Rattle.simdram_cli.proofs.Common.{image_bytes, program_bytes, TextOp, ImplementsAll, text_op}
+use Rattle.simdram_cli.proofs.Common.{ScriptFault, Instruction, Init, Bbop, Fill, Free, Order}
+use Rattle.simdram_cli.proofs.Common.{script_of, IsPlain, replies, Counts, Routines, meaning_in}
+use Rattle.simdram_cli.proofs.Common.{routines_in, routines_of, Image, opened, rows_in_banks, line}
+use Rattle.simdram_cli.proofs.Common.{lines, total_line, same_operations, Flip, guarded_replies}
+use Rattle.simdram_cli.proofs.Common.{guarded_rows, guarded_said_by, guarded_table}
+use Rattle.simdram_cli.proofs.Common.{guarded_table_at_end, guarded_turn, mended, first_long_name}
+use Rattle.simdram_cli.proofs.Common.{vote_line, first_stranger, guarded_steps, line_steps, World}
+use Rattle.simdram_cli.proofs.Common.{with_file, Ahead, Turn, ChipUse, Step, Refusal, files_after}
+use Rattle.simdram_cli.proofs.Common.{sent_by, is_print, IsDelivered, known_delivered, at_other}
+use Rattle.simdram_cli.proofs.Common.{at_own}
+use Rattle.bbop_isa.specs.Forms.{Load as ByLoad, Print as ByPrint}
 use Rattle.machine_model.specs.declared.Reply.{Reply}
 use Rattle.machine_model.specs.declared.Reply.TheVariants.{Done as ByDone, Refused}
-use Rattle.machine_model.specs.Script.{plus, replies}
-use Rattle.uprog_code.specs.declared.walker.Counts.{Counts}
-use Rattle.machine_model.specs.Routines.{Routines, meaning_in, routines_in}
-use Rattle.machine_model.specs.Routines.{routines_of}
-use Rattle.machine_model.specs.Opened.{Image, opened, rows_in_banks}
-use Rattle.machine_model.specs.Report.{line, lines, total_line}
-use Rattle.machine_model.proofs.Texts.{same_operations}
-use Rattle.guard_model.specs.declared.Flip.{Flip}
-use Rattle.guard_model.specs.Guarded.{guarded_replies, guarded_rows, joined}
-use Rattle.guard_model.specs.Guarded.{plain_ones}
-use Rattle.guard_model.specs.Guarded.{guarded_said_by, guarded_said_in_rows}
-use Rattle.guard_model.specs.Guarded.{guarded_table, guarded_table_at_end}
-use Rattle.guard_model.specs.Guarded.{guarded_turn, mended}
+use Rattle.machine_model.specs.Script.{plus}
+use Rattle.guard_model.specs.Guarded.{joined, plain_ones, guarded_said_in_rows}
 use Rattle.guard_model.specs.Laws.{HasName, IsGuarded}
-use Rattle.guard_model.specs.Named.{first_long_name}
-use Rattle.guard_model.specs.Report.{guarded_report, vote_line}
+use Rattle.guard_model.specs.Report.{guarded_report}
 use Rattle.guard_model.specs.Survival.{HoldsWhole, Spot}
-use Rattle.guard_model.specs.Triples.{first_stranger}
 use Rattle.guard_model.proofs.Adding.{accepted_has_names}
 use Rattle.guard_model.proofs.Whole.{guarded_text, triples_kept}
-use Rattle.guard_job.specs.Steps.{guarded_steps, line_steps}
-use Rattle.cli_model.specs.World.{World, with_file}
-use Rattle.wave_model.specs.Schedule.{Ahead, Turn}
-use Rattle.cli_model.specs.Waves.{ChipUse}
-use Rattle.cli_model.specs.Steps.{Step, Refusal}
-use Rattle.cli_model.specs.Stands.{files_after, sent_by}
-use Rattle.sim_machine.specs.Machine.{is_print}
 use Rattle.simdram_cli.specs.declared.words.GuardNames.{GuardNames}
 use Rattle.simdram_cli.specs.Flips.{flips_in, in_triples}
 use Rattle.simdram_cli.specs.Flips.{table_refusal, name_refusal, unless_some, with_short_names}
@@ -58,13 +35,11 @@ use Rattle.simdram_cli.specs.Guard.{table_at_last, tally_of, votes_of, whole_at_
 use Rattle.simdram_cli.specs.Guard.{work_steps}
 use Rattle.simdram_cli.specs.Headline.{IsNoBadWalk, read_as}
 use Rattle.simdram_cli.specs.Inputs.{image_of, script_in, script_or_refusal}
-use Rattle.cli_model.proofs.Delivering.{IsDelivered, known_delivered}
 use Rattle.simdram_cli.specs.Guard.{guard_plan}
 use Rattle.simdram_cli.proofs.OpsPlans.{spells_at}
 use Rattle.simdram_cli.proofs.Guarding.{Apart, apart}
 use Rattle.simdram_cli.proofs.NoWalks.{AllEnd, all_end, no_walks}
 use Rattle.simdram_cli.proofs.Promised.{kept_other}
-use Rattle.cli_model.proofs.Files.{at_other, at_own}
 use Rattle.simdram_cli.proofs.GuardPlanned.{guard_gives, guard_good, guard_takes}
 use Rattle.simdram_cli.proofs.Planned.{Proved, spares_by, zero_or_eight_tells}
 use Rattle.simdram_cli.specs.declared.words.Command.TheVariants.{Guard}

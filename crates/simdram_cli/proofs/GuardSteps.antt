@@ -1,28 +1,14 @@
 -- The statuses that the steps of a guarded run can give.
-use Rattle.std.proofs.Common.{ℕ, ◌+◌, Bool, true, false, List, [], ◌∷◌, ◌++◌, Option, Some}
-use Rattle.std.proofs.Common.{None}
-use Rattle.std.specs.Prelude.{Result, Ok, Err, IfErr}
-use Rattle.dram_model.specs.declared.geometry.Geometry.{Geometry}
-use Rattle.dram_model.specs.Chip.{Banks}
-use Rattle.object_alloc.specs.Listed.{Named}
-use Rattle.object_alloc.specs.Reading.{Found, ImageFault}
-use Rattle.bbop_isa.specs.declared.instr.ScriptFault.{ScriptFault}
-use Rattle.bbop_isa.specs.Forms.{Instruction}
-use Rattle.wave_model.specs.Schedule.{Ahead, Turn}
-use Rattle.machine_model.specs.Opened.{Image, opened}
-use Rattle.machine_model.specs.Routines.{Routines, routines_in}
-use Rattle.machine_model.specs.Report.{line}
-use Rattle.guard_model.specs.declared.Flip.{Flip}
-use Rattle.guard_model.specs.declared.FlipsFault.{FlipsFault}
+use Rattle.simdram_cli.proofs.Common.{ℕ, ◌+◌, Bool, true, false, List, [], ◌∷◌, ◌++◌, Option, Some}
+use Rattle.simdram_cli.proofs.Common.{None, Result, Ok, Err, IfErr, Geometry, Banks, Named, Found}
+use Rattle.simdram_cli.proofs.Common.{ImageFault, ScriptFault, Instruction, Ahead, Turn, Image}
+use Rattle.simdram_cli.proofs.Common.{opened, Routines, routines_in, line, Flip, FlipsFault}
+use Rattle.simdram_cli.proofs.Common.{guarded_rows, guarded_said_by, guarded_table, guarded_turn}
+use Rattle.simdram_cli.proofs.Common.{mended, first_long_name, first_stranger, guarded_steps}
+use Rattle.simdram_cli.proofs.Common.{line_steps, is_print, ChipUse, doing, OfSteps, of_more}
 use Rattle.guard_model.specs.Flips.{due}
-use Rattle.guard_model.specs.Guarded.{guarded_events, guarded_rows, guarded_said_by, guarded_table}
-use Rattle.guard_model.specs.Guarded.{guarded_turn, mended}
-use Rattle.guard_model.specs.Named.{first_long_name}
-use Rattle.guard_model.specs.Triples.{first_stranger}
-use Rattle.guard_job.specs.Steps.{guarded_steps, instr_steps, line_steps}
-use Rattle.sim_machine.specs.Machine.{is_print}
-use Rattle.cli_model.specs.Waves.{ChipUse, doing}
-use Rattle.cli_model.proofs.Statuses.{OfSteps, of_more}
+use Rattle.guard_model.specs.Guarded.{guarded_events}
+use Rattle.guard_job.specs.Steps.{instr_steps}
 use Rattle.simdram_cli.specs.Flips.{flips_or_refusal}
 use Rattle.simdram_cli.specs.Flips.{in_triples, name_refusal, table_refusal}
 use Rattle.simdram_cli.specs.Flips.{unless_some, with_short_names}

@@ -1,57 +1,39 @@
 -- How a guarded run goes and ends.
-use Rattle.std.proofs.Common.{◌≡◌, ℕ, ◌+◌, ◌*◌, ◌≤◌, Bool, true, false, cond, List, [], ◌∷◌}
-use Rattle.std.proofs.Common.{◌++◌, length, Option, Some, None, refl, sym, ◌∙◌, ap, subst, inl, inr}
-use Rattle.std.proofs.Common.{append-nil, arith, map}
-use Rattle.std.specs.Prelude.{Result, Ok, Err, IfOk, bytes_eq, count_by, not, position}
-use Rattle.std.specs.List.{AllByRecursion, list_all, position_from}
-use Rattle.std.specs.Option.{option_map}
+use Rattle.simdram_cli.proofs.Common.{and_parts, ◌≡◌, ℕ, ◌+◌, ◌*◌, ◌≤◌, Bool, true, false, cond}
+use Rattle.simdram_cli.proofs.Common.{List, [], ◌∷◌, ◌++◌, length, Option, Some, None, refl, sym}
+use Rattle.simdram_cli.proofs.Common.{◌∙◌, ap, subst, inl, inr, append-nil, arith, map, Result, Ok}
+use Rattle.simdram_cli.proofs.Common.{Err, IfOk, bytes_eq, count_by, not, AllByRecursion, list_all}
+use Rattle.simdram_cli.proofs.Common.{option_map, length-map, Counters, Geometry, Banks, Event}
+use Rattle.simdram_cli.proofs.Common.{Grew, Log, LogIs, ChipView, DidRead, with_reads, Kept}
+use Rattle.simdram_cli.proofs.Common.{LogIs-more, Rose, FolderView, SinkView, Known, AppendsPart}
+use Rattle.simdram_cli.proofs.Common.{ImageNo, Named, Found, IsFault, image_in, IsImage}
+use Rattle.simdram_cli.proofs.Common.{image_bytes, StepFault, Instr, Instruction, view_of, lines_of}
+use Rattle.simdram_cli.proofs.Common.{IsPlain, Image, opened, row_writes, rows_in_banks}
+use Rattle.simdram_cli.proofs.Common.{routines_in, total_line, is_refused, Machine, Ahead}
+use Rattle.simdram_cli.proofs.Common.{geometry_of, operations_by, table_in, turn_in, machine_on}
+use Rattle.simdram_cli.proofs.Common.{Flip, FlipsFault, flips_of, guarded_replies}
+use Rattle.simdram_cli.proofs.Common.{guarded_table_at_end, first_long_name, vote_line}
+use Rattle.simdram_cli.proofs.Common.{first_stranger, guarded_steps, World, world, ChipUse, Step}
+use Rattle.simdram_cli.proofs.Common.{Store, Use, Put, Refusal, Reason, Refused, NoMemory}
+use Rattle.simdram_cli.proofs.Common.{CannotWrite, PutFailed, ChipFailed, End, Done, Stopped, Goes}
+use Rattle.simdram_cli.proofs.Common.{LoadFails, Stored, Unstored, goes_on, stops, Answers, Runs}
+use Rattle.simdram_cli.proofs.Common.{runs_answered, runs_stopped, runs_then, LoadedAs, NotRead}
+use Rattle.simdram_cli.proofs.Common.{refusal_of}
+use Rattle.std.specs.Prelude.{position}
+use Rattle.std.specs.List.{position_from}
 use Rattle.std.proofs.lemmas.Iterator.Adapters.{position_from-zero}
-use Rattle.std.proofs.lemmas.List.{length-map}
-use Rattle.dram_model.specs.declared.dram.Counters.{Counters}
-use Rattle.dram_model.specs.declared.geometry.Geometry.{Geometry}
-use Rattle.dram_model.specs.Chip.{Banks, Event, Grew, Log, LogIs}
-use Rattle.dram_model.specs.View.{ChipView, DidRead, with_reads, Kept}
-use Rattle.dram_model.proofs.EventLaws.{LogIs-more}
-use Rattle.faults.specs.Counts.{Rose}
-use Rattle.host_edge.specs.Views.{FolderView, SinkView, Known, AppendsPart}
-use Rattle.object_alloc.specs.declared.fault.ImageNo.{ImageNo}
-use Rattle.object_alloc.specs.declared.fault.ImageNo.TheVariants as no
-use Rattle.object_alloc.specs.Listed.{Named}
-use Rattle.object_alloc.specs.Reading.{Found, IsFault, image_in}
-use Rattle.object_alloc.specs.Spelling.{IsImage, image_bytes}
-use Rattle.object_steps.specs.declared.fault.StepFault.{StepFault}
-use Rattle.object_steps.specs.declared.fault.StepFault.TheVariants as step_fault
-use Rattle.bbop_isa.specs.declared.instr.Instr.{Instr}
-use Rattle.bbop_isa.specs.Forms.{Instruction, view_of}
-use Rattle.bbop_isa.specs.Lines.{lines_of}
 use Rattle.bbop_isa.specs.Words.{words_in}
 use Rattle.text_lex.specs.Lexical.{items_of}
-use Rattle.machine_model.specs.Agrees.{IsPlain}
-use Rattle.machine_model.specs.Opened.{Image, opened, row_writes, rows_in_banks}
-use Rattle.machine_model.specs.Routines.{routines_in}
-use Rattle.machine_model.specs.Report.{total_line}
-use Rattle.machine_model.specs.Script.{is_refused}
-use Rattle.sim_machine.specs.declared.machine.Machine.{Machine}
-use Rattle.wave_model.specs.Schedule.{Ahead}
-use Rattle.sim_machine.specs.Machine.{geometry_of, operations_by, table_in, turn_in}
-use Rattle.sim_machine.specs.Opening.{machine_on}
-use Rattle.guard_model.specs.declared.Flip.{Flip}
-use Rattle.guard_model.specs.declared.FlipsFault.{FlipsFault}
 use Rattle.guard_model.specs.declared.FlipsKind.{FlipsKind}
-use Rattle.guard_model.specs.FlipText.{and_rest, flip_in, flips_from, flips_of, with_flip}
-use Rattle.guard_model.specs.Guarded.{guarded_replies, guarded_rows_at_end, guarded_table_at_end}
-use Rattle.guard_model.specs.Guarded.{guarded_tally, votes_at_end}
-use Rattle.guard_model.specs.Named.{first_long_name, has_long_name}
-use Rattle.guard_model.specs.Report.{vote_line}
-use Rattle.guard_model.specs.Triples.{first_stranger}
+use Rattle.guard_model.specs.FlipText.{and_rest, flip_in, flips_from, with_flip}
+use Rattle.guard_model.specs.Guarded.{guarded_rows_at_end, guarded_tally, votes_at_end}
+use Rattle.guard_model.specs.Named.{has_long_name}
 use Rattle.guard_job.specs.Events.{run_events}
-use Rattle.guard_job.specs.Steps.{end_by, guarded_steps}
-use Rattle.cli_model.specs.World.{World, world}
-use Rattle.cli_model.specs.Waves.{ChipUse}
-use Rattle.cli_model.specs.Steps.{Step, Store, Use, Put, Refusal, Reason}
-use Rattle.cli_model.specs.Steps.{CannotRead, TooLong, Refused, NoMemory, CannotWrite, PutFailed}
-use Rattle.cli_model.specs.Steps.{ChipFailed, End, Done, Stopped, Goes, LoadFails, Stored, Unstored}
-use Rattle.cli_model.proofs.Going.{goes_on, stops}
+use Rattle.guard_job.specs.Steps.{end_by}
+use Rattle.cli_model.specs.Steps.{CannotRead, TooLong}
+use Rattle.cli_model.specs.Reads.{ReadAs}
+use Rattle.object_alloc.specs.declared.fault.ImageNo.TheVariants as no
+use Rattle.object_steps.specs.declared.fault.StepFault.TheVariants as step_fault
 use Rattle.simdram_cli.specs.declared.words.GuardNames.{GuardNames}
 use Rattle.simdram_cli.specs.declared.words.TheConstants.{FLIPS_MAX, IMAGE_MAX, SCRIPT_MAX}
 use Rattle.simdram_cli.specs.declared.stop.Stop.{Stop}
@@ -66,13 +48,9 @@ use Rattle.simdram_cli.specs.Guard.{last_steps, refused_of}
 use Rattle.simdram_cli.specs.Guard.{table_at_last, tally_of, votes_of, work_steps}
 use Rattle.simdram_cli.specs.Inputs.{image_found, image_or_refusal, image_refusal}
 use Rattle.simdram_cli.specs.Inputs.{script_in}
-use Rattle.cli_model.specs.Plan.{Answers}
-use Rattle.cli_model.specs.Runs.{Runs}
-use Rattle.cli_model.proofs.Running.{runs_answered, runs_stopped, runs_then}
 use Rattle.simdram_cli.specs.Guard.{GuardDoneOn, guard_work_plan}
 use Rattle.simdram_cli.specs.Plans.{script_said}
 use Rattle.simdram_cli.specs.Job.{done_status, opened_counters, opening, reading}
-use Rattle.cli_model.specs.Reads.{LoadedAs, NotRead, ReadAs, refusal_of}
 use Rattle.simdram_cli.specs.Stops.{end_of, fault_reason, image_reason, reason_of}
 use Rattle.simdram_cli.specs.Words.{all_differ, guard_apart}
 use Rattle.simdram_cli.specs.Works.{OpenedOn}
@@ -81,7 +59,6 @@ use Rattle.simdram_cli.proofs.Joins.{no_sink}
 use Rattle.simdram_cli.proofs.Running.{not_true, other_way}
 use Rattle.simdram_cli.proofs.Scripts.{lines_long}
 use Rattle.simdram_cli.proofs.Stores.{sent, used}
-use Rattle.simdram_cli.proofs.Tallies.{both}
 
 -- SCRIPT
 
@@ -488,15 +465,15 @@ record SecondDiffers (b c d e : List ℕ) : Type 0 where
 second_differs : (a b c d e : List ℕ) → all_differ (a ∷ b ∷ c ∷ d ∷ e ∷ []) ≡ true
     → SecondDiffers b c d e
 second_differs a b c d e all =
-    let first = both (list_all (λ other. not (bytes_eq a other)) (b ∷ c ∷ d ∷ e ∷ []))
+    let first = and_parts (list_all (λ other. not (bytes_eq a other)) (b ∷ c ∷ d ∷ e ∷ []))
     (all_differ (b ∷ c ∷ d ∷ e ∷ [])) all in
-    let second = both (list_all (λ other. not (bytes_eq b other)) (c ∷ d ∷ e ∷ []))
+    let second = and_parts (list_all (λ other. not (bytes_eq b other)) (c ∷ d ∷ e ∷ []))
     (all_differ (c ∷ d ∷ e ∷ [])) first.1 in
-    let one = both (not (bytes_eq b c)) (list_all (λ other. not (bytes_eq b other)) (d ∷ e ∷ []))
+    let one = and_parts (not (bytes_eq b c)) (list_all (λ other. not (bytes_eq b other)) (d ∷ e ∷ []))
     second.0 in
-    let two = both (not (bytes_eq b d)) (list_all (λ other. not (bytes_eq b other)) (e ∷ [])) one.1
+    let two = and_parts (not (bytes_eq b d)) (list_all (λ other. not (bytes_eq b other)) (e ∷ [])) one.1
     in
-    let three = both (not (bytes_eq b e)) true two.1 in
+    let three = and_parts (not (bytes_eq b e)) true two.1 in
     record {
       third = not_true _ one.0;
       fourth = not_true _ two.0;
@@ -505,7 +482,7 @@ second_differs a b c d e all =
 
 pub apart : (names : GuardNames) → guard_apart names ≡ true → Apart names
 apart names e =
-    let parts = both (all_differ (names.ops.now ∷ names.prog.now ∷ names.script.now
+    let parts = and_parts (all_differ (names.ops.now ∷ names.prog.now ∷ names.script.now
     ∷ names.flips.now ∷ names.image.now ∷ [])) (all_differ (names.ops.now ∷ names.prog.now
     ∷ names.script.now ∷ names.flips.now ∷ names.out.now ∷ [])) e in
     let inputs = second_differs names.ops.now names.prog.now names.script.now names.flips.now

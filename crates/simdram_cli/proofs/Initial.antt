@@ -1,12 +1,9 @@
 -- The facts of `init`: its statuses, its memory, and what one that is done leaves.
-use Rattle.std.proofs.Common.{◌≡◌, ℕ, List, [], ◌∷◌, ◌++◌, Option, None, refl, ◌∙◌, ap}
-use Rattle.std.proofs.Common.{append-nil, inr}
-use Rattle.host_edge.specs.Views.{Files, Known}
+use Rattle.simdram_cli.proofs.Common.{◌≡◌, ℕ, List, [], ◌∷◌, ◌++◌, Option, None, refl, ◌∙◌, ap}
+use Rattle.simdram_cli.proofs.Common.{append-nil, inr, Files, Known, World, IsDelivered}
+use Rattle.simdram_cli.proofs.Common.{known_delivered, at_other, at_own, bytes_differ, GoodFor}
+use Rattle.simdram_cli.proofs.Common.{TakesFirst}
 use Rattle.host_edge.proofs.Tells.{Known-map}
-use Rattle.cli_model.specs.World.{World}
-use Rattle.cli_model.proofs.Delivering.{IsDelivered, known_delivered}
-use Rattle.cli_model.proofs.Files.{at_other, at_own, bytes_differ}
-use Rattle.cli_model.proofs.Owed.{GoodFor, TakesFirst}
 use Rattle.simdram_cli.specs.declared.words.Command.TheVariants.{Init}
 use Rattle.simdram_cli.specs.declared.words.InitNames.{InitNames}
 use Rattle.simdram_cli.specs.Init.{Started, empty_image, init_plan}

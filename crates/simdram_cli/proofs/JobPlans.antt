@@ -1,32 +1,15 @@
 -- A job goes by its plan.
-use Rattle.std.proofs.Common.{inl}
-use Rattle.std.proofs.Common.{◌≡◌, ℕ, Bool, true, false, cond, List, [], ◌∷◌, Option, Some, None, refl, sym, ap, subst}
-use Rattle.std.specs.Prelude.{Result, Ok, Err, IfOk, IfErr, nat_lt}
-use Rattle.std.specs.List.{AllByRecursion}
-use Rattle.dram_model.specs.View.{ChipView}
-use Rattle.host_edge.specs.Views.{Files, FolderView, SinkView}
-use Rattle.bbop_isa.specs.declared.instr.ScriptFault.{ScriptFault}
-use Rattle.bbop_isa.specs.Forms.{Instruction}
-use Rattle.bbop_isa.specs.Script.{script_of}
-use Rattle.object_alloc.specs.declared.fault.ImageNo.{ImageNo}
+use Rattle.simdram_cli.proofs.Common.{inl, ◌≡◌, ℕ, Bool, true, false, cond, List, [], ◌∷◌, Option}
+use Rattle.simdram_cli.proofs.Common.{Some, None, refl, sym, ap, subst, Result, Ok, Err, IfOk}
+use Rattle.simdram_cli.proofs.Common.{IfErr, nat_lt, AllByRecursion, ChipView, Files, FolderView}
+use Rattle.simdram_cli.proofs.Common.{SinkView, ScriptFault, Instruction, script_of, ImageNo, Found}
+use Rattle.simdram_cli.proofs.Common.{ImageFault, IsFault, image_in, IsImage, OpsFault, fault_in}
+use Rattle.simdram_cli.proofs.Common.{ProgFault, IsPlain, Image, Program, World, world, Goes}
+use Rattle.simdram_cli.proofs.Common.{Refusal, GoodFor, Gives, NotTen, TakesFirst, file_in, Answers}
+use Rattle.simdram_cli.proofs.Common.{Loads, Plan, LoadedAs, Runs, refused, unparsed, runs_answered}
+use Rattle.simdram_cli.proofs.Common.{runs_stopped, runs_then}
+use Rattle.uprog_bin.specs.Reading.{program_in}
 use Rattle.object_alloc.specs.declared.fault.ImageNo.TheVariants as no
-use Rattle.object_alloc.specs.Reading.{Found, ImageFault, IsFault, image_in}
-use Rattle.object_alloc.specs.Spelling.{IsImage}
-use Rattle.op_text.specs.declared.fault.OpsFault.{OpsFault}
-use Rattle.op_text.specs.Lines.{fault_in}
-use Rattle.uprog_bin.specs.Reading.{ProgFault, program_in}
-use Rattle.machine_model.specs.Agrees.{IsPlain}
-use Rattle.machine_model.specs.Opened.{Image}
-use Rattle.machine_model.specs.Routines.{Program}
-use Rattle.cli_model.specs.World.{World, world}
-use Rattle.cli_model.specs.Steps.{Goes, Refusal}
-use Rattle.cli_model.proofs.Owed.{GoodFor, Gives, NotTen, TakesFirst}
-use Rattle.cli_model.specs.Faultless.{file_in}
-use Rattle.cli_model.specs.Plan.{Answers, Loads, Plan}
-use Rattle.cli_model.specs.Reads.{LoadedAs}
-use Rattle.cli_model.specs.Runs.{Runs}
-use Rattle.cli_model.proofs.Doing.{refused, unparsed}
-use Rattle.cli_model.proofs.Running.{runs_answered, runs_stopped, runs_then}
 use Rattle.simdram_cli.specs.declared.job.JobNames.{JobNames}
 use Rattle.simdram_cli.specs.declared.stop.Stop.{Stop}
 use Rattle.simdram_cli.specs.declared.words.TheConstants.{IMAGE_MAX, SCRIPT_MAX}

@@ -1,15 +1,13 @@
 -- The steps of a run, joined.
-use Rattle.std.proofs.Common.{◌≡◌, ℕ, false, List, [], Option, Some, None}
-use Rattle.std.proofs.Common.{refl, inl, inr}
-use Rattle.std.specs.Prelude.{Result, Ok, Err, IfSome, bytes_eq}
+use Rattle.simdram_cli.proofs.Common.{◌≡◌, ℕ, false, List, [], Option, Some, None, refl, inl, inr}
+use Rattle.simdram_cli.proofs.Common.{Result, Ok, Err, IfSome, bytes_eq, ChipView, Files, SinkView}
+use Rattle.simdram_cli.proofs.Common.{World, Step, Refusal, Reason, End, Stopped, Goes, LoadFails}
+use Rattle.simdram_cli.proofs.Common.{loading, refusal_of}
 use Rattle.std.specs.Option.{unwrap_or}
-use Rattle.dram_model.specs.View.{ChipView, no_counts}
-use Rattle.host_edge.specs.Views.{Files, SinkView}
-use Rattle.cli_model.specs.World.{World}
-use Rattle.cli_model.specs.Steps.{Step, Refusal, Reason, End, Stopped, Goes}
-use Rattle.cli_model.specs.Steps.{Loaded, LoadFails, loading}
+use Rattle.dram_model.specs.View.{no_counts}
+use Rattle.cli_model.specs.Steps.{Loaded}
+use Rattle.cli_model.specs.Reads.{IsText}
 use Rattle.simdram_cli.specs.declared.words.RunNames.{RunNames}
-use Rattle.cli_model.specs.Reads.{refusal_of, IsText}
 
 -- a sink and a chip that show nothing
 pub no_sink : SinkView

@@ -1,3 +1,4 @@
+pub mod Common
 pub mod Joins
 pub mod Reading
 pub mod Scripts

@@ -1,24 +1,12 @@
 -- The file of what is made of a program is one that commands load.
-use Rattle.std.proofs.Common.{◌≡◌, ℕ, ◌+◌, ◌-◌, ◌*◌, ◌/◌, ◌≤◌, List, [], ◌∷◌, ◌++◌, length, refl, ap}
-use Rattle.std.proofs.Common.{◌∙◌, arith}
-use Rattle.std.specs.Int.{to_le_bytes, w16, w32}
-use Rattle.std.specs.List.{AllByRecursion}
-use Rattle.std.specs.Prelude.{flat_map}
-use Rattle.std.proofs.lemmas.List.{length-append}
-use Rattle.std.proofs.lemmas.List.Concat.{flat_map-cons}
-use Rattle.file_fields.specs.Fields.{name_bytes}
-use Rattle.file_fields.proofs.Padded.{name_size}
+use Rattle.simdram_cli.proofs.Common.{◌≡◌, ℕ, ◌+◌, ◌-◌, ◌*◌, ◌/◌, ◌≤◌, List, [], ◌∷◌, ◌++◌, length}
+use Rattle.simdram_cli.proofs.Common.{refl, ap, ◌∙◌, arith, to_le_bytes, w16, w32, AllByRecursion}
+use Rattle.simdram_cli.proofs.Common.{flat_map, length-append, flat_map-cons, name_bytes, name_size}
+use Rattle.simdram_cli.proofs.Common.{Microprogram, IsEntry, IsProgram, TextOp, code_bytes}
+use Rattle.simdram_cli.proofs.Common.{directory_bytes, head_bytes, opening_bytes, program_bytes}
+use Rattle.simdram_cli.proofs.Common.{shape_bytes, length-code, IsProgramFile, Program, AreOutcomes}
 use Rattle.uprog_code.specs.declared.registers.Issued.{Issued}
-use Rattle.uprog_code.specs.Shape.{Microprogram}
-use Rattle.uprog_code.specs.Programs.{IsEntry, IsProgram}
-use Rattle.uprog_code.specs.Texts.{TextOp}
-use Rattle.uprog_bin.specs.Spelling.{code_bytes, directory_bytes, head_bytes, opening_bytes}
-use Rattle.uprog_bin.specs.Spelling.{program_bytes, shape_bytes}
-use Rattle.uprog_bin.proofs.Again.{length-code}
-use Rattle.uprog_bin.specs.Opened.{IsProgramFile}
-use Rattle.machine_model.specs.Routines.{Program}
 use Rattle.optimise_job.specs.declared.offer.Outcome.{Outcome}
-use Rattle.optimise_job.specs.Outcomes.{AreOutcomes}
 use Rattle.optimise_job.proofs.Pushed.{many_outcomes}
 use Rattle.optimise_job.proofs.Sizes.{total, total_fits}
 use Rattle.simdram_cli.specs.declared.words.TheConstants.{PROG_MAX}

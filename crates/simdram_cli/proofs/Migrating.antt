@@ -1,22 +1,13 @@
 -- The facts of `migrate`: its statuses, its files, its memory, and what one that is done leaves.
-use Rattle.std.proofs.Common.{◌≡◌, ℕ, List, [], ◌∷◌, ◌++◌, Option, Some, None, refl, sym, ◌∙◌, ap, subst}
-use Rattle.std.proofs.Common.{append-nil, arith, drop, inr, take}
+use Rattle.simdram_cli.proofs.Common.{◌≡◌, ℕ, List, [], ◌∷◌, ◌++◌, Option, Some, None, refl, sym}
+use Rattle.simdram_cli.proofs.Common.{◌∙◌, ap, subst, append-nil, arith, drop, inr, take, Result}
+use Rattle.simdram_cli.proofs.Common.{Ok, Files, Known, IsProgram, HasVersion, program_bytes}
+use Rattle.simdram_cli.proofs.Common.{ProgFault, IsProgramFile, read, Program, World, Put, Refusal}
+use Rattle.simdram_cli.proofs.Common.{Store, Answers, Makes, Then, file_in, IsDelivered}
+use Rattle.simdram_cli.proofs.Common.{known_delivered, at_other, at_own, bytes_differ, GoodFor}
+use Rattle.simdram_cli.proofs.Common.{NotTen, TakesFirst}
 use Rattle.std.proofs.lemmas.Grind.{common_steps}
-use Rattle.std.specs.Prelude.{Result, Ok, length}
-use Rattle.host_edge.specs.Views.{Files, Known}
-use Rattle.uprog_code.specs.Programs.{IsProgram}
-use Rattle.uprog_bin.specs.Spelling.{HasVersion, program_bytes}
-use Rattle.uprog_bin.specs.Reading.{ProgFault}
-use Rattle.uprog_bin.specs.Opened.{IsProgramFile}
-use Rattle.uprog_bin.proofs.Whole.{read}
-use Rattle.machine_model.specs.Routines.{Program}
-use Rattle.cli_model.specs.World.{World}
-use Rattle.cli_model.specs.Steps.{Put, Refusal, Store}
-use Rattle.cli_model.specs.Plan.{Answers, Makes, Then}
-use Rattle.cli_model.specs.Faultless.{file_in}
-use Rattle.cli_model.proofs.Delivering.{IsDelivered, known_delivered}
-use Rattle.cli_model.proofs.Files.{at_other, at_own, bytes_differ}
-use Rattle.cli_model.proofs.Owed.{GoodFor, NotTen, TakesFirst}
+use Rattle.std.specs.Prelude.{length}
 use Rattle.simdram_cli.specs.declared.words.Command.TheVariants.{Migrate}
 use Rattle.simdram_cli.specs.declared.words.MigrateNames.{MigrateNames}
 use Rattle.simdram_cli.specs.declared.words.TheConstants.{PROG_MAX}

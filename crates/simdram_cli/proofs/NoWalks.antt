@@ -1,32 +1,25 @@
 -- No bbop of a program that implements a text is refused for its walk.
-use Rattle.std.proofs.Common.{◌≡◌, ℕ, ◌+◌, ◌<◌, ◌≤◌, Bool, true, false, cond, List, [], ◌∷◌, map}
-use Rattle.std.proofs.Common.{◌++◌, Option, Some, None, refl, sym, subst, length}
-use Rattle.std.specs.Prelude.{◌*◌, ◌^◌, ◌==◌, nat_lt, nat_le, not, zip, is_none}
-use Rattle.std.specs.List.{AllByRecursion}
-use Rattle.std.specs.Option.{option_map}
-use Rattle.dram_model.specs.declared.geometry.Geometry.{Geometry}
-use Rattle.bit_rows.specs.declared.TheConstants.{WIDTH_MAX}
-use Rattle.uprog_code.specs.Shape.{Microprogram, need, results}
-use Rattle.uprog_code.specs.Machine.{Trace, Ended, Stuck, trace, HasEnded}
-use Rattle.dram_model.specs.Elements.{column_count}
+use Rattle.simdram_cli.proofs.Common.{◌≡◌, ℕ, ◌+◌, ◌<◌, ◌≤◌, Bool, true, false, cond, List, [], ◌∷◌}
+use Rattle.simdram_cli.proofs.Common.{map, ◌++◌, Option, Some, None, refl, sym, subst, length, ◌==◌}
+use Rattle.simdram_cli.proofs.Common.{nat_lt, nat_le, not, AllByRecursion, option_map, Geometry}
+use Rattle.simdram_cli.proofs.Common.{WIDTH_MAX, Microprogram, trace, HasEnded, column_count, Named}
+use Rattle.simdram_cli.proofs.Common.{Instruction, Init, Bbop, Fill, Free, Order, Why, Program}
+use Rattle.simdram_cli.proofs.Common.{Routines, routines_in, TextOp, ImplementsAll, refusal}
+use Rattle.simdram_cli.proofs.Common.{table_after, replies, IsPlain}
+use Rattle.std.specs.Prelude.{◌*◌, ◌^◌, zip, is_none}
+use Rattle.uprog_code.specs.Shape.{need, results}
+use Rattle.uprog_code.specs.Machine.{Trace, Ended, Stuck}
 use Rattle.object_alloc.specs.Free.{free}
-use Rattle.object_alloc.specs.Listed.{Named, objects_of, limit_of, has_name}
+use Rattle.object_alloc.specs.Listed.{objects_of, limit_of, has_name}
 use Rattle.bbop_isa.specs.declared.instr.Place.{Place}
-use Rattle.bbop_isa.specs.Forms.{Instruction}
-use Rattle.bbop_isa.specs.Forms.{Init, Bbop, Load, Fill, Print, Free, Order}
-use Rattle.machine_model.specs.declared.Why.{Why}
-use Rattle.machine_model.specs.declared.Why.TheVariants as why
-use Rattle.machine_model.specs.Routines.{Program, Routine, Routines, routines_in}
-use Rattle.machine_model.specs.Routines.{routine_of, entry_named}
-use Rattle.uprog_code.specs.Texts.{TextOp, ImplementsAll}
+use Rattle.bbop_isa.specs.Forms.{Load, Print}
+use Rattle.machine_model.specs.Routines.{Routine, routine_of, entry_named}
 use Rattle.machine_model.specs.Refusals.{first, when, at_place, walks_badly, rows_of, goes_past}
 use Rattle.machine_model.specs.Refusals.{is_absent, is_misfit, bbop_conditions, bbop_refusal}
 use Rattle.machine_model.specs.Refusals.{dsts_in, srcs_in, meets_one, meet_before}
-use Rattle.machine_model.specs.Refusals.{refusal}
-use Rattle.machine_model.specs.Steps.{reply_by, table_after}
-use Rattle.machine_model.specs.Script.{replies}
-use Rattle.machine_model.specs.Agrees.{IsPlain}
+use Rattle.machine_model.specs.Steps.{reply_by}
 use Rattle.machine_model.proofs.Texts.{Matched, both, matched}
+use Rattle.machine_model.specs.declared.Why.TheVariants as why
 use Rattle.simdram_cli.specs.Headline.{IsNoBadWalk}
 
 abbrev pub NotWalk : Option Why → Type 0

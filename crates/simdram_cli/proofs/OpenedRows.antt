@@ -1,18 +1,15 @@
 -- The rows of a chip that was opened on an image are the image's.
-use Rattle.std.proofs.Common.{◌≡◌, ℕ, zero, suc, ◌+◌, ◌*◌, ◌<◌, ◌≤◌, Bool, List, [], ◌∷◌, length}
-use Rattle.std.proofs.Common.{map, refl, sym, ◌∙◌, ap, subst, arith, inl, inr}
-use Rattle.std.specs.List.{range_with_len}
-use Rattle.std.proofs.lemmas.Bool.{ne_eqb, eq-eqb, cases_lt, lt-ltb}
+use Rattle.simdram_cli.proofs.Common.{◌≡◌, ℕ, zero, suc, ◌+◌, ◌*◌, ◌<◌, ◌≤◌, Bool, List, [], ◌∷◌}
+use Rattle.simdram_cli.proofs.Common.{length, map, refl, sym, ◌∙◌, ap, subst, arith, inl, inr}
+use Rattle.simdram_cli.proofs.Common.{range_with_len, eq-eqb, cases_lt, Geometry, Event, row_in}
+use Rattle.simdram_cli.proofs.Common.{blank_banks, Write, Rows, IsImage, Image, opened}
+use Rattle.std.proofs.lemmas.Bool.{ne_eqb, lt-ltb}
 use Rattle.std.proofs.lemmas.List.{length-replicate}
-use Rattle.dram_model.specs.declared.geometry.Geometry.{Geometry}
 use Rattle.dram_model.specs.declared.address.Cell.TheVariants.{D}
 use Rattle.dram_model.specs.Column.{Column, blank}
-use Rattle.dram_model.specs.Chip.{Event, row_in, with_row, blank_banks}
-use Rattle.dram_model.specs.Chip.Event.{Write}
+use Rattle.dram_model.specs.Chip.{with_row}
 use Rattle.dram_model.specs.Events.{events_of}
 use Rattle.dram_model.proofs.EventLaws.{on_bank_all}
-use Rattle.object_alloc.specs.Spelling.{Rows, IsImage}
-use Rattle.machine_model.specs.Opened.{Image, opened}
 use Rattle.machine_model.proofs.Loads.{OnOwn, each_inside}
 
 -- the writes of a bank's rows

@@ -1,15 +1,7 @@
 -- OPS is loaded by a plan, and what its text spells.
-use Rattle.std.proofs.Common.{◌≡◌, ℕ, List, Option, Some, subst, sym}
-use Rattle.std.specs.Prelude.{Result}
-use Rattle.dram_model.specs.View.{ChipView}
-use Rattle.host_edge.specs.Views.{FolderView, SinkView}
-use Rattle.op_text.specs.Language.{Operation}
-use Rattle.op_text.specs.OpsOf.{IsOpsOf}
-use Rattle.cli_model.specs.World.{World, world}
-use Rattle.cli_model.specs.Steps.{Reason}
-use Rattle.cli_model.specs.Plan.{Plan, Loads}
-use Rattle.cli_model.specs.Runs.{Runs}
-use Rattle.cli_model.proofs.Doing.{parsed}
+use Rattle.simdram_cli.proofs.Common.{◌≡◌, ℕ, List, Option, Some, subst, sym, Result, ChipView}
+use Rattle.simdram_cli.proofs.Common.{FolderView, SinkView, Operation, IsOpsOf, World, world}
+use Rattle.simdram_cli.proofs.Common.{Reason, Plan, Loads, Runs, parsed}
 use Rattle.simdram_cli.specs.declared.words.TheConstants.{OPS_MAX}
 use Rattle.simdram_cli.specs.Headline.{Spells}
 use Rattle.simdram_cli.specs.Inputs.{ops_in}

@@ -1,26 +1,16 @@
 -- The facts of `optimise`: its statuses, its files, its memory, and what one that is done leaves.
-use Rattle.std.proofs.Common.{◌≡◌, ℕ, List, [], ◌∷◌, ◌++◌, Option, None, refl, ◌∙◌, ap, subst}
-use Rattle.std.proofs.Common.{append-nil}
-use Rattle.std.proofs.Common.{inr, sym, Ok, Some}
+use Rattle.simdram_cli.proofs.Common.{◌≡◌, ℕ, List, [], ◌∷◌, ◌++◌, Option, None, refl, ◌∙◌, ap}
+use Rattle.simdram_cli.proofs.Common.{subst, append-nil, inr, sym, Some, Files, Known, text_op}
+use Rattle.simdram_cli.proofs.Common.{IsProgram, program_bytes, read, Program, AreOutcomes, World}
+use Rattle.simdram_cli.proofs.Common.{Take, Loads, Makes, Then, file_in, IsDelivered}
+use Rattle.simdram_cli.proofs.Common.{known_delivered, at_other, at_own, bytes_differ, GoodFor}
+use Rattle.simdram_cli.proofs.Common.{NotTen, TakesFirst}
+use Rattle.std.proofs.Common.{Ok}
 use Rattle.std.specs.Prelude.{map}
-use Rattle.host_edge.specs.Views.{Files, Known}
-use Rattle.uprog_code.specs.Texts.{text_op}
-use Rattle.uprog_code.specs.Programs.{IsProgram}
-use Rattle.uprog_bin.specs.Spelling.{program_bytes}
-use Rattle.uprog_bin.proofs.Whole.{read}
-use Rattle.machine_model.specs.Routines.{Program}
-use Rattle.optimise_job.specs.Outcomes.{AreOutcomes}
 use Rattle.optimise_job.specs.Report.{report}
 use Rattle.optimise_job.proofs.AsGood.{all_good}
 use Rattle.optimise_job.proofs.Implemented.{still_implement}
 use Rattle.optimise_job.proofs.Right.{all_right}
-use Rattle.cli_model.specs.World.{World}
-use Rattle.cli_model.specs.Steps.{Take}
-use Rattle.cli_model.specs.Plan.{Loads, Makes, Then}
-use Rattle.cli_model.specs.Faultless.{file_in}
-use Rattle.cli_model.proofs.Delivering.{IsDelivered, known_delivered}
-use Rattle.cli_model.proofs.Files.{at_other, at_own, bytes_differ}
-use Rattle.cli_model.proofs.Owed.{GoodFor, NotTen, TakesFirst}
 use Rattle.simdram_cli.specs.declared.words.Command.TheVariants.{Optimise}
 use Rattle.simdram_cli.specs.declared.words.OptimiseNames.{OptimiseNames}
 use Rattle.simdram_cli.specs.declared.words.TheConstants.{OPS_MAX, PROG_MAX}

@@ -1,30 +1,15 @@
 -- A script that was done on an image, as the steps of a job.
-use Rattle.std.proofs.Common.{◌≡◌, ℕ, ◌+◌, ◌*◌, List, [], ◌∷◌, ◌++◌, ◌∙◌, refl, sym, ap, subst}
-use Rattle.std.proofs.Common.{add_assoc, append_assoc}
-use Rattle.std.specs.Prelude.{count_by}
-use Rattle.dram_model.specs.declared.geometry.Geometry.{Geometry}
-use Rattle.dram_model.specs.declared.dram.Counters.{Counters}
-use Rattle.dram_model.specs.Chip.{Banks, Event, Grew, after, all_counted}
-use Rattle.dram_model.specs.View.{ChipView, HasBegun, Kept, with_reads}
-use Rattle.dram_model.proofs.EventLaws.{LogIs-more}
-use Rattle.object_alloc.specs.Listed.{Named}
-use Rattle.object_alloc.specs.Spelling.{image_bytes}
-use Rattle.bbop_isa.specs.Forms.{Instruction}
-use Rattle.wave_model.specs.Schedule.{Ahead}
-use Rattle.machine_model.specs.Routines.{Program, routines_in}
-use Rattle.machine_model.specs.Opened.{Image, opened, row_writes, rows_in_banks}
-use Rattle.machine_model.specs.Pieces.{script_events}
-use Rattle.machine_model.specs.Script.{banks_at_end, is_refused, replies, rows_printed, sum_done}
-use Rattle.machine_model.specs.Script.{table_at_end}
-use Rattle.machine_model.specs.Report.{total_line}
-use Rattle.machine_model.proofs.Pieces.{events_are_steps}
-use Rattle.cli_model.specs.World.{World}
-use Rattle.cli_model.specs.Steps.{Step, Store, Put, End, Done, Stopped, Reason, Goes}
-use Rattle.cli_model.proofs.Going.{goes_on, stops}
-use Rattle.sim_machine.specs.declared.machine.Machine.{Machine}
-use Rattle.sim_machine.specs.Machine.{geometry_of, program_of, table_in}
-use Rattle.sim_machine.specs.Opening.{machine_on}
-use Rattle.sim_machine.specs.Steps.{DidAndRead}
+use Rattle.simdram_cli.proofs.Common.{◌≡◌, ℕ, ◌+◌, ◌*◌, List, [], ◌∷◌, ◌++◌, ◌∙◌, refl, sym, ap}
+use Rattle.simdram_cli.proofs.Common.{subst, append_assoc, count_by, Geometry, Counters, Banks}
+use Rattle.simdram_cli.proofs.Common.{Event, Grew, after, all_counted, ChipView, HasBegun, Kept}
+use Rattle.simdram_cli.proofs.Common.{with_reads, LogIs-more, Named, image_bytes, Instruction}
+use Rattle.simdram_cli.proofs.Common.{Ahead, Program, routines_in, Image, opened, row_writes}
+use Rattle.simdram_cli.proofs.Common.{rows_in_banks, script_events, banks_at_end, is_refused}
+use Rattle.simdram_cli.proofs.Common.{replies, rows_printed, sum_done, table_at_end, total_line}
+use Rattle.simdram_cli.proofs.Common.{events_are_steps, World, Step, Store, Put, End, Done, Stopped}
+use Rattle.simdram_cli.proofs.Common.{Reason, Goes, goes_on, stops, Machine, geometry_of}
+use Rattle.simdram_cli.proofs.Common.{program_of, table_in, machine_on, DidAndRead}
+use Rattle.std.proofs.Common.{add_assoc}
 use Rattle.simdram_cli.specs.Job.{image_by, opened_counters, refused_by, script_steps, tally_by}
 use Rattle.simdram_cli.specs.Job.{opening, reading, reading_by, work_steps}
 use Rattle.simdram_cli.specs.Tracing.{events_on, image_on, reading_on, reads_on, steps_on, unlogged}

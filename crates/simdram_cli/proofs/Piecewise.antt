@@ -1,48 +1,30 @@
 -- Pieces of a script, one after another.
-use Rattle.std.proofs.Common.{◌≡◌, ℕ, suc, ◌+◌, ◌<◌, ◌≤◌, Bool, true, false, cond, List}
-use Rattle.std.proofs.Common.{[]}
-use Rattle.std.proofs.Common.{◌∷◌, ◌++◌, map, drop, take, length, refl, sym, ◌∙◌, ap, subst, arith}
-use Rattle.std.proofs.Common.{append-nil, inl, inr}
-use Rattle.std.specs.Prelude.{Option, count_by, flat_map, min}
-use Rattle.std.specs.List.{AllByRecursion, prefix_len}
-use Rattle.std.proofs.lemmas.Bool.{cases_lt}
+use Rattle.simdram_cli.proofs.Common.{◌≡◌, ℕ, suc, ◌+◌, ◌<◌, ◌≤◌, Bool, true, false, cond, List, []}
+use Rattle.simdram_cli.proofs.Common.{◌∷◌, ◌++◌, map, drop, take, length, refl, sym, ◌∙◌, ap, subst}
+use Rattle.simdram_cli.proofs.Common.{arith, append-nil, inl, inr, count_by, flat_map}
+use Rattle.simdram_cli.proofs.Common.{AllByRecursion, prefix_len, cases_lt, Counters, Ap, Aap}
+use Rattle.simdram_cli.proofs.Common.{Geometry, Banks, Event, after, counted, all_counted, Row}
+use Rattle.simdram_cli.proofs.Common.{Write, ChipView, with_reads, all_counted-append, Grew-more}
+use Rattle.simdram_cli.proofs.Common.{Named, Instr, Instruction, view_of, IsPlain, Routines}
+use Rattle.simdram_cli.proofs.Common.{is_bbop, banks_at_end, table_at_end, AreBbops, Piece, Wave}
+use Rattle.simdram_cli.proofs.Common.{Alone, instrs_in, pieces, Turn, piece_events, turn_after}
+use Rattle.simdram_cli.proofs.Common.{ChipUse, doing, Said, said_by, said_in_rows, line, lines}
+use Rattle.simdram_cli.proofs.Common.{table_after, scripts_go_on, all_parted, World, End, Done}
+use Rattle.simdram_cli.proofs.Common.{Stopped, Reason, Goes, goes_on, stops, sent_by, is_print}
+use Rattle.simdram_cli.proofs.Common.{DidAndRead, sent_append}
+use Rattle.std.specs.Prelude.{Option, min}
 use Rattle.std.proofs.lemmas.List.{length-take-le, take-map}
 use Rattle.std.proofs.lemmas.List.Sums.{prefix_len-le-length}
 use Rattle.std.proofs.Math.Nat.{min-eq_left, min-eq_right, min-le_right}
 use Rattle.std.proofs.lemmas.List.Recursion.{is_count_by}
-use Rattle.dram_model.specs.declared.dram.Counters.{Counters}
-use Rattle.dram_model.specs.declared.address.Command.TheVariants.{Ap, Aap}
-use Rattle.dram_model.specs.declared.geometry.Geometry.{Geometry}
-use Rattle.dram_model.specs.Chip.{Banks, Event, after, counted, all_counted}
-use Rattle.dram_model.specs.Chip.Event.{Row, Write}
-use Rattle.dram_model.specs.View.{ChipView, with_reads}
-use Rattle.dram_model.proofs.EventLaws.{after-append, all_counted-append, Grew-more}
-use Rattle.dram_model.proofs.EventLaws.{Grew-none}
-use Rattle.object_alloc.specs.Listed.{Named}
-use Rattle.bbop_isa.specs.declared.instr.Instr.{Instr}
-use Rattle.bbop_isa.specs.Forms.{Instruction, view_of}
-use Rattle.machine_model.specs.Agrees.{IsPlain}
-use Rattle.machine_model.specs.Routines.{Routines}
-use Rattle.machine_model.specs.Script.{is_bbop, banks_at_end, table_at_end}
-use Rattle.machine_model.specs.Pieces.{AreBbops, Piece, Wave, Alone, IsPiece, instrs_in, pieces}
-use Rattle.wave_model.specs.Schedule.{Turn}
-use Rattle.machine_model.specs.Pieces.{piece_events, turn_after, wave_size}
-use Rattle.cli_model.specs.Waves.{ChipUse, doing}
-use Rattle.machine_model.specs.Report.{Said, said_by, said_in_rows, line, lines}
-use Rattle.machine_model.specs.Steps.{banks_after, table_after}
+use Rattle.dram_model.proofs.EventLaws.{after-append, Grew-none}
+use Rattle.machine_model.specs.Pieces.{IsPiece, wave_size}
+use Rattle.machine_model.specs.Steps.{banks_after}
 use Rattle.machine_model.proofs.Cut.{alone_cut, wave_cut, wave_is_piece}
-use Rattle.machine_model.proofs.Parts.{scripts_go_on, lines_go_on, all_parted}
+use Rattle.machine_model.proofs.Parts.{lines_go_on}
 use Rattle.machine_model.proofs.Pieces.{pieces_are_script}
-use Rattle.cli_model.specs.World.{World}
-use Rattle.cli_model.specs.Steps.{End, Done}
-use Rattle.cli_model.specs.Steps.{Stopped, Reason, Goes}
-use Rattle.cli_model.proofs.Going.{goes_on, stops}
-use Rattle.cli_model.specs.Stands.{sent_by}
-use Rattle.sim_machine.specs.Machine.{is_print}
-use Rattle.sim_machine.specs.Steps.{DidAndRead}
 use Rattle.simdram_cli.specs.Job.{put_lines, instr_steps, piece_steps, pieces_steps}
 use Rattle.simdram_cli.specs.Works.{next_piece}
-use Rattle.cli_model.proofs.Delivering.{sent_append}
 
 least_some : (n : ℕ) → 1 ≤ n → 0 < min 16 n
 least_some n some = elim (cases_lt 16 n) [

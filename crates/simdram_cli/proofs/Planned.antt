@@ -1,17 +1,13 @@
 -- What follows for a command that goes by its plan.
-use Rattle.std.proofs.Common.{◌≡◌, ℕ, Bool, true, false, List, [], ◌∷◌, Option, refl, subst, sym}
-use Rattle.std.proofs.Common.{inl, inr}
-use Rattle.std.specs.Prelude.{◌==◌, ◌&&◌, not}
+use Rattle.simdram_cli.proofs.Common.{and_parts, ◌≡◌, ℕ, Bool, true, false, List, [], ◌∷◌, Option}
+use Rattle.simdram_cli.proofs.Common.{refl, subst, sym, inl, inr, ◌==◌, ◌&&◌, not, Files, World}
+use Rattle.simdram_cli.proofs.Common.{file_in, Plan, EndsBy, IsDelivered, Gives, GoodFor}
+use Rattle.simdram_cli.proofs.Common.{TakesFirst}
 use Rattle.std.specs.List.{list_any}
-use Rattle.host_edge.specs.Views.{Files}
-use Rattle.cli_model.specs.World.{World}
-use Rattle.cli_model.specs.Faultless.{IsSpared, file_in}
-use Rattle.cli_model.specs.Plan.{Plan}
-use Rattle.cli_model.specs.Runs.{EndsBy}
-use Rattle.cli_model.proofs.Delivering.{IsDelivered, plan_delivers}
+use Rattle.cli_model.specs.Faultless.{IsSpared}
+use Rattle.cli_model.proofs.Delivering.{plan_delivers}
 use Rattle.cli_model.proofs.Giving.{plan_answers}
 use Rattle.cli_model.proofs.Good.{plan_completes}
-use Rattle.cli_model.proofs.Owed.{Gives, GoodFor, TakesFirst}
 use Rattle.cli_model.proofs.Sparing.{plan_spares}
 use Rattle.simdram_cli.specs.declared.words.Command.{Command}
 use Rattle.simdram_cli.specs.Commands.{CanAnswer, CommandEnds, Completes, HasNumbers}
@@ -19,7 +15,6 @@ use Rattle.simdram_cli.specs.Commands.{Promises, Spares, facts}
 use Rattle.simdram_cli.specs.Facts.{AllFiles, ByPlan, IsZero, IsZeroOrEight, Keeps, WholeFolder}
 use Rattle.simdram_cli.specs.Facts.{keeping}
 use Rattle.simdram_cli.specs.Verify.{IsVerifyDone}
-use Rattle.simdram_cli.proofs.Tallies.{both}
 
 -- the files of a command are apart
 abbrev pub IsApart : Command → Type 0
@@ -50,7 +45,7 @@ not_both false e f = cc
 pub failing_apart : (command : Command) (status : ℕ) → IsTold status → IsFailing command status → ⊥
 failing_apart command status told f =
     not_both (list_any (λ s. s == status) (0 ∷ 8 ∷ 19 ∷ 20 ∷ [])) told
-    (both (list_any (λ s. s == status) (facts command).statuses)
+    (and_parts (list_any (λ s. s == status) (facts command).statuses)
     (not (list_any (λ s. s == status) (0 ∷ 8 ∷ 19 ∷ 20 ∷ []))) f).1
 
 pub zero_tells : (status : ℕ) → IsZero status → IsTold status
@@ -105,7 +100,7 @@ module _ (command : Command) (old new : World) (status : ℕ) (p : Proved comman
   pub can_answer : CanAnswer command status
   can_answer = plan_answers (IsFailing command) (CanAnswer command) (CanAnswer command)
       (facts command).plan old new status p.gives (λ s f.
-      (both (list_any (λ x. x == s) (facts command).statuses)
+      (and_parts (list_any (λ x. x == s) (facts command).statuses)
       (not (list_any (λ x. x == s) (0 ∷ 8 ∷ 19 ∷ 20 ∷ []))) f).0) (λ s c. c) ends_by
 
   pub promises : IsApart command → HasNumbers command → Promises command old new status

@@ -1,36 +1,19 @@
 -- One piece of a script was done, and the others are left.
-use Rattle.std.proofs.Common.{◌≡◌, ℕ, ◌+◌, ◌<◌, ◌≤◌, List, ◌∷◌, ◌++◌, drop, length, refl, sym}
-use Rattle.std.proofs.Common.{◌∙◌}
-use Rattle.std.proofs.Common.{ap, subst, arith, map, true}
+use Rattle.simdram_cli.proofs.Common.{◌≡◌, ℕ, ◌+◌, ◌<◌, ◌≤◌, List, ◌∷◌, ◌++◌, drop, length, refl}
+use Rattle.simdram_cli.proofs.Common.{sym, ◌∙◌, ap, subst, arith, map, true, count_by}
+use Rattle.simdram_cli.proofs.Common.{AllByRecursion, FolderView, SinkView, Counters, Geometry}
+use Rattle.simdram_cli.proofs.Common.{is_geometry, ChipView, Listing, Named, Instr, Instruction}
+use Rattle.simdram_cli.proofs.Common.{view_of, Turn, IsPlain, Program, routines_in, TableFits}
+use Rattle.simdram_cli.proofs.Common.{Piece, instrs_in, pieces, piece_events, turn_after}
+use Rattle.simdram_cli.proofs.Common.{events_of_pieces, is_refused, replies, rows_printed, sum_done}
+use Rattle.simdram_cli.proofs.Common.{table_at_end, banks_at_end, all_parted, scripts_go_on, World}
+use Rattle.simdram_cli.proofs.Common.{world, End, Done, Goes, Machine, geometry_of, program_of}
+use Rattle.simdram_cli.proofs.Common.{table_in, turn_in, LiesOn, RisesAtMost, DidAndRead}
 use Rattle.std.proofs.lemmas.List.{drop-drop, drop-map}
-use Rattle.std.specs.Prelude.{count_by}
-use Rattle.std.specs.List.{AllByRecursion}
-use Rattle.host_edge.specs.Views.{FolderView, SinkView}
-use Rattle.dram_model.specs.declared.dram.Counters.{Counters}
-use Rattle.dram_model.specs.declared.geometry.Geometry.{Geometry}
-use Rattle.dram_model.specs.Geometry.{is_geometry}
-use Rattle.dram_model.specs.View.{ChipView}
-use Rattle.object_alloc.specs.Listed.{Listing, Named}
-use Rattle.bbop_isa.specs.declared.instr.Instr.{Instr}
-use Rattle.bbop_isa.specs.Forms.{Instruction, view_of}
-use Rattle.wave_model.specs.Schedule.{Turn}
-use Rattle.machine_model.specs.Agrees.{IsPlain}
-use Rattle.machine_model.specs.Routines.{Program, routines_in}
-use Rattle.machine_model.specs.Laws.{FitsBanks, TableFits}
-use Rattle.machine_model.specs.Pieces.{Piece, instrs_in, pieces, piece_events, turn_after}
-use Rattle.machine_model.specs.Pieces.{events_of_pieces}
-use Rattle.machine_model.specs.Script.{is_refused, replies, rows_printed, sum_done, table_at_end}
-use Rattle.machine_model.specs.Script.{banks_at_end}
+use Rattle.machine_model.specs.Laws.{FitsBanks}
 use Rattle.machine_model.proofs.Bounds.{geometry_parts}
-use Rattle.machine_model.proofs.Parts.{all_parted, scripts_go_on}
 use Rattle.machine_model.proofs.Pieces.{piece_is_steps}
 use Rattle.machine_model.proofs.Tables.{fits_banks}
-use Rattle.cli_model.specs.World.{World, world}
-use Rattle.cli_model.specs.Steps.{End, Done, Goes}
-use Rattle.sim_machine.specs.declared.machine.Machine.{Machine}
-use Rattle.sim_machine.specs.Machine.{geometry_of, program_of, table_in, turn_in}
-use Rattle.object_steps.specs.Objects.{LiesOn, RisesAtMost}
-use Rattle.sim_machine.specs.Steps.{DidAndRead}
 use Rattle.simdram_cli.specs.Job.{piece_steps, pieces_steps}
 use Rattle.simdram_cli.specs.Works.{PieceDone, next_piece}
 use Rattle.simdram_cli.proofs.Piecewise.{begins, count_both, did_more, front_is, goes_piece}

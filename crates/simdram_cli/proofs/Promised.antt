@@ -1,29 +1,14 @@
 -- A run that ends with 0 or 8 keeps its promises.
-use Rattle.std.proofs.Common.{◌≡◌, ℕ, ◌+◌, Bool, true, false, List, [], ◌∷◌, ◌++◌, length}
-use Rattle.std.proofs.Common.{refl, ◌∙◌, ap, append-nil}
-use Rattle.std.specs.Prelude.{◌≢◌}
-use Rattle.std.specs.List.{AllByRecursion}
-use Rattle.dram_model.specs.declared.geometry.Geometry.{Geometry}
-use Rattle.dram_model.specs.Chip.{Banks}
-use Rattle.dram_model.specs.View.{ChipView}
-use Rattle.host_edge.specs.Views.{Files}
-use Rattle.object_alloc.specs.Listed.{Named}
-use Rattle.object_alloc.specs.Spelling.{IsImage}
-use Rattle.uprog_code.specs.Texts.{TextOp, ImplementsAll}
-use Rattle.bbop_isa.specs.Forms.{Instruction}
-use Rattle.machine_model.specs.Agrees.{IsPlain}
-use Rattle.machine_model.specs.Routines.{Program, Routines, routines_in}
-use Rattle.machine_model.specs.Opened.{Image, opened}
-use Rattle.wave_model.specs.Schedule.{Turn, Ahead}
-use Rattle.machine_model.specs.Pieces.{Piece, Wave, Alone, instrs_in, piece_events, pieces, turn_after}
-use Rattle.machine_model.specs.Report.{Said, line, lines, said_by, said_in_rows, total_line}
-use Rattle.machine_model.specs.Script.{banks_at_end, table_at_end}
-use Rattle.cli_model.specs.World.{with_file}
+use Rattle.simdram_cli.proofs.Common.{◌≡◌, ℕ, ◌+◌, Bool, true, false, List, [], ◌∷◌, ◌++◌, length}
+use Rattle.simdram_cli.proofs.Common.{refl, ◌∙◌, ap, append-nil, ◌≢◌, AllByRecursion, Geometry}
+use Rattle.simdram_cli.proofs.Common.{Banks, ChipView, Files, Named, IsImage, TextOp, ImplementsAll}
+use Rattle.simdram_cli.proofs.Common.{Instruction, IsPlain, Program, Routines, routines_in, Image}
+use Rattle.simdram_cli.proofs.Common.{opened, Turn, Ahead, Piece, Wave, Alone, instrs_in}
+use Rattle.simdram_cli.proofs.Common.{piece_events, pieces, turn_after, Said, line, lines, said_by}
+use Rattle.simdram_cli.proofs.Common.{said_in_rows, total_line, banks_at_end, table_at_end}
+use Rattle.simdram_cli.proofs.Common.{with_file, ChipUse, doing, Store, Put, files_after, sent_by}
+use Rattle.simdram_cli.proofs.Common.{is_print, at_other, bytes_differ, files_append, sent_append}
 use Rattle.std.specs.Prelude.{Option}
-use Rattle.cli_model.specs.Waves.{ChipUse, doing}
-use Rattle.cli_model.specs.Steps.{Store, Put}
-use Rattle.cli_model.specs.Stands.{files_after, sent_by}
-use Rattle.sim_machine.specs.Machine.{is_print}
 use Rattle.simdram_cli.specs.Job.{done_status, image_by, instr_steps}
 use Rattle.simdram_cli.specs.Job.{piece_steps, pieces_steps, put_lines, refused_by, said_in}
 use Rattle.simdram_cli.specs.Job.{reading_by, script_steps, tally_by, work_steps}
@@ -33,8 +18,6 @@ use Rattle.simdram_cli.proofs.Piecewise.{sent_script}
 use Rattle.simdram_cli.proofs.Tallies.{some_words}
 use Rattle.simdram_cli.proofs.Promises.{job_of, IsDone}
 use Rattle.simdram_cli.proofs.Promises.{refusals_are, no_bad_walks}
-use Rattle.cli_model.proofs.Files.{at_other, bytes_differ}
-use Rattle.cli_model.proofs.Delivering.{files_append, sent_append}
 
 -- the files that a script's steps leave
 

@@ -1,27 +1,18 @@
 -- What a run that is done promises.
-use Rattle.std.proofs.Common.{◌≡◌, ℕ, ◌+◌, ◌*◌, ◌<◌, List, [], ◌∷◌, ◌++◌, map, Some, refl, sym, ◌∙◌}
-use Rattle.std.proofs.Common.{ap, subst}
-use Rattle.std.specs.Prelude.{count_by}
-use Rattle.std.specs.List.{AllByRecursion}
-use Rattle.host_edge.specs.Views.{Files}
-use Rattle.dram_model.specs.declared.geometry.Geometry.{Geometry}
-use Rattle.dram_model.specs.Chip.{Banks, row_in}
-use Rattle.dram_model.specs.View.{ChipView}
-use Rattle.object_alloc.specs.Listed.{Named}
-use Rattle.object_alloc.specs.Spelling.{image_bytes, IsImage}
-use Rattle.bbop_isa.specs.Forms.{Instruction}
-use Rattle.machine_model.specs.Routines.{Program, Routines, routines_of, routines_in}
-use Rattle.machine_model.specs.Routines.{meaning_in}
-use Rattle.uprog_code.specs.Texts.{TextOp, ImplementsAll}
-use Rattle.machine_model.specs.Opened.{Image, opened, objects_held, rows_in_banks}
+use Rattle.simdram_cli.proofs.Common.{◌≡◌, ℕ, ◌+◌, ◌*◌, ◌<◌, List, [], ◌∷◌, ◌++◌, map, Some, refl}
+use Rattle.simdram_cli.proofs.Common.{sym, ◌∙◌, ap, subst, count_by, AllByRecursion, Files}
+use Rattle.simdram_cli.proofs.Common.{Geometry, Banks, row_in, ChipView, Named, image_bytes}
+use Rattle.simdram_cli.proofs.Common.{IsImage, Instruction, Program, Routines, routines_of}
+use Rattle.simdram_cli.proofs.Common.{routines_in, meaning_in, TextOp, ImplementsAll, Image, opened}
+use Rattle.simdram_cli.proofs.Common.{objects_held, rows_in_banks, IsPlain, replies, banks_at_end}
+use Rattle.simdram_cli.proofs.Common.{table_at_end, sum_of, sum_done, rows_loaded, rows_printed}
+use Rattle.simdram_cli.proofs.Common.{is_refused, lines, total_line, said_in_rows, same_operations}
 use Rattle.machine_model.specs.Columns.{columns}
 use Rattle.machine_model.specs.Steps.{Held, table_of, words_after}
-use Rattle.machine_model.specs.Agrees.{Agrees, IsPlain, DoesAll}
-use Rattle.machine_model.specs.Script.{replies, words_at_end, banks_at_end, table_at_end}
-use Rattle.machine_model.specs.Script.{is_touched_by, sum_of, sum_done, rows_loaded, rows_printed}
-use Rattle.machine_model.specs.Script.{is_refused}
-use Rattle.machine_model.specs.Report.{lines, total_line, said_in_words, said_in_rows}
-use Rattle.machine_model.proofs.Texts.{same_operations, does_all}
+use Rattle.machine_model.specs.Agrees.{Agrees, DoesAll}
+use Rattle.machine_model.specs.Script.{words_at_end, is_touched_by}
+use Rattle.machine_model.specs.Report.{said_in_words}
+use Rattle.machine_model.proofs.Texts.{does_all}
 use Rattle.machine_model.proofs.Steps.{StepAgrees}
 use Rattle.machine_model.proofs.Scripts.{table_step}
 use Rattle.machine_model.proofs.Whole.{every_step, rows_give_words}

@@ -1,8 +1,7 @@
 -- What the top call promises, from how a command ends.
-use Rattle.std.proofs.Common.{◌≡◌, ℕ, Bool, true, false, cond, List, Option, Some, None, refl, subst}
+use Rattle.simdram_cli.proofs.Common.{◌≡◌, ℕ, Bool, true, false, cond, List, Option, Some, None}
+use Rattle.simdram_cli.proofs.Common.{refl, subst, Bor, World}
 use Rattle.std.specs.Prelude.{◌↔◌}
-use denote.Ref.{Bor}
-use Rattle.cli_model.specs.World.{World}
 use Rattle.simdram_cli.specs.declared.words.Command.{Command}
 use Rattle.simdram_cli.specs.declared.words.Command.TheVariants.{Account as AccountOf, Compile, Exec}
 use Rattle.simdram_cli.specs.declared.words.Command.TheVariants.{Guard, Init, Migrate, Optimise}

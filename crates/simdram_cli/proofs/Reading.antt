@@ -1,20 +1,12 @@
 -- Files that were loaded, and what they were read as.
-use Rattle.std.proofs.Common.{◌≡◌, ℕ, List, Some, None, ap}
-use Rattle.std.specs.Prelude.{Result, Ok, Err}
-use Rattle.host_edge.specs.Views.{FolderView}
-use Rattle.bbop_isa.specs.declared.instr.ScriptFault.{ScriptFault}
-use Rattle.bbop_isa.specs.Forms.{Instruction}
-use Rattle.bbop_isa.specs.Script.{script_of}
-use Rattle.cli_model.specs.World.{world}
-use Rattle.cli_model.specs.Steps.{Refusal, Reason, Refused, NoMemory}
-use Rattle.op_text.specs.declared.fault.OpsFault.{OpsFault}
-use Rattle.op_text.specs.Language.{Operation}
-use Rattle.op_text.specs.Lines.{fault_in}
-use Rattle.op_text.specs.OpsOf.{IsOpsOf}
+use Rattle.simdram_cli.proofs.Common.{◌≡◌, ℕ, List, Some, None, ap, Result, Ok, Err, FolderView}
+use Rattle.simdram_cli.proofs.Common.{ScriptFault, Instruction, script_of, world, Refusal, Reason}
+use Rattle.simdram_cli.proofs.Common.{Refused, NoMemory, OpsFault, Operation, fault_in, IsOpsOf}
+use Rattle.simdram_cli.proofs.Common.{refusal_of, LoadedAs, NotRead}
+use Rattle.cli_model.specs.Reads.{NotLoaded}
 use Rattle.simdram_cli.specs.declared.words.TheConstants.{OPS_MAX}
 use Rattle.simdram_cli.specs.Inputs.{ops_in, ops_refusal, unless_fault, script_in}
 use Rattle.simdram_cli.specs.Inputs.{script_refusal, script_or_refusal}
-use Rattle.cli_model.specs.Reads.{refusal_of, LoadedAs, NotLoaded, NotRead}
 use Rattle.simdram_cli.specs.Reads.{OpsRead}
 use Rattle.simdram_cli.proofs.Joins.{known_text, known_is_text, loaded_text, no_sink, no_chip}
 

@@ -1,51 +1,32 @@
 -- The facts of `replay`: how its parts go, its statuses, its files, its memory, and what one that is
 -- done promises.
-use Rattle.std.proofs.Common.{◌≡◌, ℕ, ◌+◌, ◌*◌, ◌<◌, ◌≤◌, ◌^◌, Bool, true, false, cond, List, []}
-use Rattle.std.proofs.Common.{◌∷◌, ◌++◌, Option, Some, None, refl, sym, ◌∙◌, ap, subst, inl, inr}
-use Rattle.std.proofs.Common.{arith, append-nil, zero-add}
-use Rattle.std.specs.Prelude.{◌⊎◌, Result, Ok, Err, IfErr, ◌==◌, ◌&&◌, count_by, not}
-use Rattle.std.specs.Result.{result_ok}
-use Rattle.std.proofs.lemmas.Bool.{eqb-true, eq-eqb}
+use Rattle.simdram_cli.proofs.Common.{and_parts, ◌≡◌, ℕ, ◌+◌, ◌*◌, ◌<◌, ◌≤◌, ◌^◌, Bool, true, false}
+use Rattle.simdram_cli.proofs.Common.{cond, List, [], ◌∷◌, ◌++◌, Option, Some, None, refl, sym, ◌∙◌}
+use Rattle.simdram_cli.proofs.Common.{ap, subst, inl, inr, arith, append-nil, zero-add, Result, Ok}
+use Rattle.simdram_cli.proofs.Common.{Err, IfErr, ◌==◌, ◌&&◌, count_by, not, result_ok, eq-eqb}
+use Rattle.simdram_cli.proofs.Common.{Rose, AppendsPart, Files, FolderView, SinkView, Known, Ap}
+use Rattle.simdram_cli.proofs.Common.{Aap, Counters, Geometry, Banks, Event, after, all_counted}
+use Rattle.simdram_cli.proofs.Common.{counted, Row, Write, StoppedWithin, ChipView, Did, DidRead}
+use Rattle.simdram_cli.proofs.Common.{with_reads, Kept, ImageNo, Named, Found, ImageFault, image_in}
+use Rattle.simdram_cli.proofs.Common.{IsFault, image_bytes, IsProgramFile, program_bytes, Image}
+use Rattle.simdram_cli.proofs.Common.{opened, row_writes, rows_in_banks, IsTrace, Trace}
+use Rattle.simdram_cli.proofs.Common.{bytes_of_trace, World, world, doing, Step, Store, Use, Put}
+use Rattle.simdram_cli.proofs.Common.{Refusal, Reason, CannotWrite, PutFailed, ChipFailed, End}
+use Rattle.simdram_cli.proofs.Common.{Done, Stopped, Goes, Stored, Unstored, file_in, Loads, Makes}
+use Rattle.simdram_cli.proofs.Common.{Plan, LoadedAs, Runs, IsDelivered, known_delivered, refused}
+use Rattle.simdram_cli.proofs.Common.{unparsed, at_other, at_own, bytes_differ, goes_on, stops}
+use Rattle.simdram_cli.proofs.Common.{GoodFor, NotTen, TakesFirst, OfSteps}
+use Rattle.std.specs.Prelude.{◌⊎◌}
+use Rattle.std.proofs.lemmas.Bool.{eqb-true}
 use Rattle.std.proofs.lemmas.List.Sums.{sum_by-cons}
-use Rattle.faults.specs.Counts.{Rose}
-use Rattle.host_edge.specs.Views.{AppendsPart, Files, FolderView, SinkView, Known}
-use Rattle.dram_model.specs.declared.address.Command.TheVariants.{Ap, Aap}
-use Rattle.dram_model.specs.declared.dram.Counters.{Counters}
-use Rattle.dram_model.specs.declared.geometry.Geometry.{Geometry}
-use Rattle.dram_model.specs.Chip.{Banks, Event, after, all_counted, counted}
-use Rattle.dram_model.specs.Chip.Event.{Row, Write}
-use Rattle.transpose_unit.specs.Stopped.{StoppedWithin}
-use Rattle.dram_model.specs.View.{ChipView, Did, DidRead, StoppedIn, with_reads, Kept}
+use Rattle.dram_model.specs.View.{StoppedIn}
 use Rattle.transpose_unit.proofs.Stopping.{stopped_at_event}
 use Rattle.trace_model.specs.Replay.{replayed}
-use Rattle.object_alloc.specs.declared.fault.ImageNo.{ImageNo}
-use Rattle.object_alloc.specs.declared.fault.ImageNo.TheVariants as no
-use Rattle.object_alloc.specs.Listed.{Named}
-use Rattle.object_alloc.specs.Reading.{Found, ImageFault, image_in, IsFault}
-use Rattle.object_alloc.specs.Spelling.{image_bytes}
-use Rattle.uprog_bin.specs.Opened.{IsProgramFile}
-use Rattle.uprog_bin.specs.Spelling.{program_bytes}
-use Rattle.machine_model.specs.Opened.{Image, opened, row_writes, rows_in_banks}
 use Rattle.trace_model.specs.Reading.{TraceFault, trace_in as trace_read}
-use Rattle.trace_model.specs.Spelling.{IsTrace, Trace, bytes_of_trace}
 use Rattle.cmd_trace.specs.declared.fault.TraceNo.{TraceNo}
-use Rattle.cmd_trace.specs.declared.fault.TraceNo.TheVariants as trace_no
 use Rattle.cmd_trace.specs.Opened.{IsFault as IsTraceFault}
-use Rattle.cli_model.specs.World.{World, world}
-use Rattle.cli_model.specs.Waves.{doing}
-use Rattle.cli_model.specs.Steps.{Step, Store, Use, Put, Refusal, Reason}
-use Rattle.cli_model.specs.Steps.{CannotWrite, PutFailed, ChipFailed, End, Done, Stopped}
-use Rattle.cli_model.specs.Steps.{Goes, Stored, Unstored}
-use Rattle.cli_model.specs.Faultless.{file_in}
-use Rattle.cli_model.specs.Plan.{Loads, Makes, Plan}
-use Rattle.cli_model.specs.Reads.{LoadedAs}
-use Rattle.cli_model.specs.Runs.{Runs}
-use Rattle.cli_model.proofs.Delivering.{IsDelivered, known_delivered}
-use Rattle.cli_model.proofs.Doing.{refused, unparsed}
-use Rattle.cli_model.proofs.Files.{at_other, at_own, bytes_differ}
-use Rattle.cli_model.proofs.Going.{goes_on, stops}
-use Rattle.cli_model.proofs.Owed.{GoodFor, NotTen, TakesFirst}
-use Rattle.cli_model.proofs.Statuses.{OfSteps}
+use Rattle.object_alloc.specs.declared.fault.ImageNo.TheVariants as no
+use Rattle.cmd_trace.specs.declared.fault.TraceNo.TheVariants as trace_no
 use Rattle.simdram_cli.specs.declared.words.Command.TheVariants.{Replay}
 use Rattle.simdram_cli.specs.declared.words.ReplayNames.{ReplayNames}
 use Rattle.simdram_cli.specs.declared.words.TheConstants.{IMAGE_MAX, TRACE_MAX}
@@ -67,7 +48,7 @@ use Rattle.simdram_cli.proofs.JobPlans.{good_file}
 use Rattle.simdram_cli.proofs.Planned.{GivesOwn, IsFailing, IsOneOf, Proved, spares_by, zero_tells}
 use Rattle.simdram_cli.proofs.Sending.{left_by}
 use Rattle.simdram_cli.proofs.Stores.{sent, use_broke, used}
-use Rattle.simdram_cli.proofs.Tallies.{both, log_is}
+use Rattle.simdram_cli.proofs.Tallies.{log_is}
 
 -- two geometries with equal fields are one
 
@@ -84,8 +65,8 @@ of_fields b c r s w v e f g = rw (e, f, g) refl
 
 pub geometry_is : (g h : Geometry) → same_geometry g h ≡ true → g ≡ h
 geometry_is g h e =
-    let two = both (g.banks == h.banks) (g.rows == h.rows && g.words == h.words) e in
-    let one = both (g.rows == h.rows) (g.words == h.words) two.1 in
+    let two = and_parts (g.banks == h.banks) (g.rows == h.rows && g.words == h.words) e in
+    let one = and_parts (g.rows == h.rows) (g.words == h.words) two.1 in
     of_fields g.banks h.banks g.rows h.rows g.words h.words (eqb-true g.banks h.banks two.0)
     (eqb-true g.rows h.rows one.0) (eqb-true g.words h.words one.1)
 

@@ -1,17 +1,9 @@
 -- The facts of `run`: its statuses, its files, its memory, and what one that is done promises.
-use Rattle.std.proofs.Common.{◌≡◌, ℕ, List, [], ◌∷◌, ◌++◌, map, Option, Some, refl, sym, ◌∙◌, ap, subst}
-use Rattle.std.proofs.Common.{inl}
-use Rattle.std.specs.Result.{result_ok}
-use Rattle.host_edge.specs.Views.{Files, Known}
-use Rattle.machine_model.specs.Routines.{Program}
-use Rattle.uprog_bin.specs.Spelling.{program_bytes}
-use Rattle.uprog_code.specs.Texts.{text_op}
-use Rattle.cli_model.specs.World.{World, with_file}
-use Rattle.cli_model.specs.Steps.{Store, Take}
-use Rattle.cli_model.proofs.Owed.{GoodFor, NotTen, TakesFirst, files_then}
-use Rattle.cli_model.specs.Faultless.{file_in}
-use Rattle.cli_model.specs.Plan.{Makes, Then}
-use Rattle.cli_model.proofs.Delivering.{IsDelivered, known_delivered}
+use Rattle.simdram_cli.proofs.Common.{◌≡◌, ℕ, List, [], ◌∷◌, ◌++◌, map, Option, Some, refl, sym}
+use Rattle.simdram_cli.proofs.Common.{◌∙◌, ap, subst, inl, result_ok, Files, Known, Program}
+use Rattle.simdram_cli.proofs.Common.{program_bytes, text_op, World, with_file, Store, Take}
+use Rattle.simdram_cli.proofs.Common.{GoodFor, NotTen, TakesFirst, files_then, file_in, Makes, Then}
+use Rattle.simdram_cli.proofs.Common.{IsDelivered, known_delivered, at_other, at_own}
 use Rattle.simdram_cli.specs.declared.words.Command.TheVariants.{Run}
 use Rattle.simdram_cli.specs.declared.words.RunNames.{RunNames}
 use Rattle.simdram_cli.specs.declared.words.TheConstants.{IMAGE_MAX, OPS_MAX, SCRIPT_MAX}
@@ -32,7 +24,6 @@ use Rattle.simdram_cli.proofs.Promised.{replies_exact, work_files, work_sent}
 use Rattle.simdram_cli.proofs.Promises.{commands_counted, job_of, objects_right, report_is}
 use Rattle.simdram_cli.proofs.Promises.{rows_untouched}
 use Rattle.simdram_cli.proofs.Running.{Apart, apart}
-use Rattle.cli_model.proofs.Files.{at_other, at_own}
 
 pub run_gives : (names : RunNames) → GivesOwn (Run names) (run_plan names)
 run_gives names =

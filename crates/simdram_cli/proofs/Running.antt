@@ -1,33 +1,22 @@
 -- The parts of a run.
-use Rattle.std.proofs.Common.{◌≡◌, ℕ, Bool, true, false, List, [], ◌∷◌, map, refl, sym, ap}
-use Rattle.std.proofs.Common.{inl}
-use Rattle.std.specs.Prelude.{Result, Ok, Err, IfOk, IfErr, bytes_eq, not}
-use Rattle.std.specs.List.{list_all}
-use Rattle.std.proofs.lemmas.Slice.Eq.{bytes_eq-Decides}
-use Rattle.host_edge.specs.Views.{FolderView}
-use Rattle.uprog_bin.specs.Spelling.{program_bytes}
-use Rattle.uprog_gen.specs.Totals.{AreExact}
-use Rattle.machine_model.specs.Routines.{Program}
-use Rattle.op_text.specs.Language.{Operation}
-use Rattle.uprog_code.specs.Programs.{IsProgram}
-use Rattle.uprog_code.specs.Texts.{ImplementsAll, text_op}
-use Rattle.cli_model.specs.World.{world}
-use Rattle.cli_model.specs.Steps.{Take, Store, Reason, Done, Stopped}
-use Rattle.object_alloc.specs.Reading.{Found, image_in}
+use Rattle.simdram_cli.proofs.Common.{and_parts, ◌≡◌, ℕ, Bool, true, false, List, [], ◌∷◌, map}
+use Rattle.simdram_cli.proofs.Common.{refl, sym, ap, inl, Result, Ok, Err, IfOk, IfErr, bytes_eq}
+use Rattle.simdram_cli.proofs.Common.{not, list_all, bytes_eq-Decides, FolderView, program_bytes}
+use Rattle.simdram_cli.proofs.Common.{AreExact, Program, Operation, IsProgram, ImplementsAll}
+use Rattle.simdram_cli.proofs.Common.{text_op, world, Take, Store, Reason, Done, Stopped, Found}
+use Rattle.simdram_cli.proofs.Common.{image_in, NotRead}
 use Rattle.simdram_cli.specs.Accepted.{IsTaken}
 use Rattle.simdram_cli.specs.Inputs.{ops_in, image_of, image_found, image_or_refusal}
 use Rattle.simdram_cli.specs.declared.words.RunNames.{RunNames}
 use Rattle.simdram_cli.specs.declared.words.TheConstants.{OPS_MAX}
 use Rattle.simdram_cli.specs.declared.stop.Stop.{Stop}
 use Rattle.simdram_cli.specs.Stops.{reason_of}
-use Rattle.cli_model.specs.Reads.{NotRead}
 use Rattle.simdram_cli.specs.Reads.{OpsRead}
 use Rattle.simdram_cli.specs.Words.{are_apart, all_differ}
 use Rattle.simdram_cli.specs.Ends.{GoesToStore, StopsAtStore, ProgramTaken, ProgramStopped}
 use Rattle.simdram_cli.proofs.Joins.{loaded_text, loading_goes}
 use Rattle.simdram_cli.proofs.Joins.{loading_stops, AreOthers, no_sink, no_chip}
 use Rattle.simdram_cli.proofs.Reading.{ops_accepted}
-use Rattle.simdram_cli.proofs.Tallies.{both}
 
 pub program_unread : (ops_name prog_name : List ℕ) (reason : Reason) (old new : FolderView)
     → NotRead ops_in ops_name OPS_MAX reason old new
@@ -131,21 +120,21 @@ pub record Differ (a b c d : List ℕ) : Type 0 where
 
 pub four_differ : (a b c d : List ℕ) → all_differ (a ∷ b ∷ c ∷ d ∷ []) ≡ true → Differ a b c d
 four_differ a b c d e =
-    let first = both (list_all (λ other. not (bytes_eq a other)) (b ∷ c ∷ d ∷ []))
+    let first = and_parts (list_all (λ other. not (bytes_eq a other)) (b ∷ c ∷ d ∷ []))
     (all_differ (b ∷ c ∷ d ∷ [])) e in
-    let second = both (list_all (λ other. not (bytes_eq b other)) (c ∷ d ∷ []))
+    let second = and_parts (list_all (λ other. not (bytes_eq b other)) (c ∷ d ∷ []))
     (all_differ (c ∷ d ∷ [])) first.1 in
-    let third = both (list_all (λ other. not (bytes_eq c other)) (d ∷ [])) (all_differ (d ∷ []))
+    let third = and_parts (list_all (λ other. not (bytes_eq c other)) (d ∷ [])) (all_differ (d ∷ []))
     second.1 in
-    let one = both (not (bytes_eq a b)) (list_all (λ other. not (bytes_eq a other)) (c ∷ d ∷ []))
+    let one = and_parts (not (bytes_eq a b)) (list_all (λ other. not (bytes_eq a other)) (c ∷ d ∷ []))
     first.0 in
-    let two = both (not (bytes_eq a c)) (list_all (λ other. not (bytes_eq a other)) (d ∷ [])) one.1
+    let two = and_parts (not (bytes_eq a c)) (list_all (λ other. not (bytes_eq a other)) (d ∷ [])) one.1
     in
-    let three = both (not (bytes_eq a d)) true two.1 in
-    let four = both (not (bytes_eq b c)) (list_all (λ other. not (bytes_eq b other)) (d ∷ []))
+    let three = and_parts (not (bytes_eq a d)) true two.1 in
+    let four = and_parts (not (bytes_eq b c)) (list_all (λ other. not (bytes_eq b other)) (d ∷ []))
     second.0 in
-    let five = both (not (bytes_eq b d)) true four.1 in
-    let six = both (not (bytes_eq c d)) true third.0 in
+    let five = and_parts (not (bytes_eq b d)) true four.1 in
+    let six = and_parts (not (bytes_eq c d)) true third.0 in
     record {
       ab = not_true _ one.0;
       ac = not_true _ two.0;
@@ -165,7 +154,7 @@ pub record Apart (names : RunNames) : Type 0 where
 pub apart : (names : RunNames) → are_apart names.ops.now names.prog.now names.script.now
     names.image.now names.out.now ≡ true → Apart names
 apart names e =
-    let parts = both (all_differ (names.ops.now ∷ names.prog.now ∷ names.script.now
+    let parts = and_parts (all_differ (names.ops.now ∷ names.prog.now ∷ names.script.now
     ∷ names.image.now ∷ [])) (all_differ (names.ops.now ∷ names.prog.now ∷ names.script.now
     ∷ names.out.now ∷ [])) e in
     let inputs = four_differ names.ops.now names.prog.now names.script.now names.image.now parts.0

@@ -1,51 +1,35 @@
 -- The facts of `scan`: how its parts go, its statuses, its files, its memory, and what one that is
 -- done promises.
-use Rattle.std.proofs.Common.{◌≡◌, ℕ, ◌*◌, ◌≤◌, ◌^◌, Bool, true, List, [], ◌∷◌}
-use Rattle.std.proofs.Common.{◌++◌}
-use Rattle.std.proofs.Common.{Option, Some, None, refl, sym, ◌∙◌, ap, subst, inl, inr, arith}
-use Rattle.std.proofs.Common.{append-nil, map, zero-add}
-use Rattle.std.specs.Prelude.{Result, Ok, Err, IfErr, IfSome, count_by, nat_le, ◌&&◌}
-use Rattle.std.specs.List.{range_with_len}
-use Rattle.std.specs.Result.{IsOkAnd, result_ok}
-use Rattle.std.proofs.lemmas.Bool.{leb-true}
+use Rattle.simdram_cli.proofs.Common.{and_parts, ◌≡◌, ℕ, ◌*◌, ◌≤◌, ◌^◌, Bool, true, List, [], ◌∷◌}
+use Rattle.simdram_cli.proofs.Common.{◌++◌, Option, Some, None, refl, sym, ◌∙◌, ap, subst, inl, inr}
+use Rattle.simdram_cli.proofs.Common.{arith, append-nil, map, zero-add, Result, Ok, Err, IfErr}
+use Rattle.simdram_cli.proofs.Common.{IfSome, count_by, nat_le, ◌&&◌, range_with_len, result_ok}
+use Rattle.simdram_cli.proofs.Common.{leb-true, fun_ext, Counters, Geometry, Banks, after}
+use Rattle.simdram_cli.proofs.Common.{StoppedWithin, LogIs-more, is_geometry, is_between, fits_size}
+use Rattle.simdram_cli.proofs.Common.{ChipView, Kept, with_reads, Rose, Files, FolderView, SinkView}
+use Rattle.simdram_cli.proofs.Common.{Known, Named, image_in, Operation, Counts, IsProgram}
+use Rattle.simdram_cli.proofs.Common.{ImplementsAll, text_op, program_bytes, AreExact, Why}
+use Rattle.simdram_cli.proofs.Common.{Instruction, Turn, Ahead, Image, opened, row_writes}
+use Rattle.simdram_cli.proofs.Common.{objects_held, Program, routines_in, events_of_pieces, pieces}
+use Rattle.simdram_cli.proofs.Common.{script_events, with_counts, events_are_steps, DidAndRead}
+use Rattle.simdram_cli.proofs.Common.{query_script, count_of, scan_script, scan_refused, Node}
+use Rattle.simdram_cli.proofs.Common.{Query, nodes_of, World, world, ChipUse, IsLeftBy, Step, Take}
+use Rattle.simdram_cli.proofs.Common.{Refusal, Reason, ChipFailed, End, Done, Stopped, Goes}
+use Rattle.simdram_cli.proofs.Common.{sent_by, file_in, Makes, Plan, Then, LoadedAs, Runs}
+use Rattle.simdram_cli.proofs.Common.{IsDelivered, Delivers, goes_on, stops, Gives, GoodFor, NotTen}
+use Rattle.simdram_cli.proofs.Common.{TakesFirst, runs_made, runs_stopped, runs_then, OfSteps}
+use Rattle.std.specs.Result.{IsOkAnd}
 use Rattle.std.proofs.lemmas.Nat.{mul-le}
-use mathlib.Core.Path.{fun_ext}
-use Rattle.dram_model.specs.declared.dram.Counters.{Counters}
-use Rattle.dram_model.specs.declared.geometry.Geometry.{Geometry}
-use Rattle.dram_model.specs.Chip.{Banks, after}
-use Rattle.transpose_unit.specs.Stopped.{StoppedWithin}
-use Rattle.dram_model.proofs.EventLaws.{LogIs-more}
 use Rattle.dram_model.specs.Elements.{segments_of}
-use Rattle.dram_model.specs.Geometry.{is_geometry, is_between, fits_size}
-use Rattle.dram_model.specs.View.{ChipView, Kept, with_reads}
-use Rattle.faults.specs.Counts.{Rose}
-use Rattle.host_edge.specs.Views.{Files, FolderView, SinkView, Known}
-use Rattle.object_alloc.specs.Listed.{Named}
-use Rattle.object_alloc.specs.Reading.{image_in, Found as ImageIs}
-use Rattle.op_text.specs.Language.{Operation}
-use Rattle.uprog_code.specs.declared.walker.Counts.{Counts}
-use Rattle.uprog_code.specs.Programs.{IsProgram}
-use Rattle.uprog_code.specs.Texts.{ImplementsAll, text_op}
-use Rattle.uprog_bin.specs.Spelling.{program_bytes}
-use Rattle.uprog_gen.specs.Totals.{AreExact}
-use Rattle.machine_model.specs.declared.Why.{Why}
-use Rattle.bbop_isa.specs.Forms.{Instruction}
-use Rattle.wave_model.specs.Schedule.{Turn, Ahead}
-use Rattle.machine_model.specs.Opened.{Image, opened, row_writes, objects_held}
-use Rattle.machine_model.specs.Routines.{Program, routines_in}
-use Rattle.machine_model.specs.Pieces.{events_of_pieces, pieces, script_events}
-use Rattle.machine_model.specs.Script.{with_counts}
-use Rattle.machine_model.proofs.Pieces.{events_are_steps}
-use Rattle.sim_machine.specs.Steps.{DidAndRead}
+use Rattle.object_alloc.specs.Reading.{Found as ImageIs}
 use Rattle.scan_model.specs.declared.QueryFault.{QueryFault}
 use Rattle.scan_model.specs.declared.ScanWhy.{ScanWhy}
 use Rattle.scan_model.specs.Answers.{Answer, Found, Refused as NotFound, answer, by_checks, by_run}
-use Rattle.scan_model.specs.Answers.{element_in, found_in, query_count, query_script}
+use Rattle.scan_model.specs.Answers.{element_in, found_in, query_count}
 use Rattle.scan_model.specs.Checks.{checked}
-use Rattle.scan_model.specs.Instructions.{count_of, scan_script}
-use Rattle.scan_model.specs.Laws.{element, scan_refused}
+use Rattle.scan_model.specs.Laws.{element}
 use Rattle.scan_model.specs.Operations.{scan_operations}
-use Rattle.scan_model.specs.Queries.{Node, Query, matches, nodes_of}
+use Rattle.scan_model.specs.Queries.{matches}
 use Rattle.scan_model.specs.Texts.{fault_in}
 use Rattle.scan_model.proofs.Answered.{elements}
 use Rattle.scan_query.specs.Answers.{CountersRose, answer_of, is_done}
@@ -53,22 +37,10 @@ use Rattle.scan_query.specs.Parsing.{IsQueryOf}
 use Rattle.scan_query.specs.Queries.{IsNodesOf}
 use Rattle.scan_query.specs.Running.{AreBelow}
 use Rattle.scan_query.specs.declared.query.ScanReply.{ScanReply}
+use Rattle.cli_model.specs.Runs.{Went}
+use Rattle.cli_model.proofs.Delivering.{if_delivered}
+use Rattle.cli_model.proofs.Running.{if_all}
 use Rattle.scan_query.specs.declared.query.ScanReply.TheVariants as reply
-use Rattle.cli_model.specs.World.{World, world}
-use Rattle.cli_model.specs.Waves.{ChipUse, IsLeftBy}
-use Rattle.cli_model.specs.Steps.{Step, Take, Refusal, Reason}
-use Rattle.cli_model.specs.Steps.{ChipFailed, End, Done, Stopped, Goes}
-use Rattle.cli_model.specs.Stands.{sent_by}
-use Rattle.cli_model.specs.Faultless.{file_in}
-use Rattle.cli_model.specs.Plan.{Makes, Plan, Then}
-use Rattle.cli_model.specs.Reads.{LoadedAs}
-use Rattle.cli_model.specs.Runs.{Runs, Went}
-use Rattle.cli_model.proofs.Delivering.{IsDelivered, if_delivered}
-use Rattle.cli_model.proofs.Delivers.{Delivers}
-use Rattle.cli_model.proofs.Going.{goes_on, stops}
-use Rattle.cli_model.proofs.Owed.{Gives, GoodFor, NotTen, TakesFirst}
-use Rattle.cli_model.proofs.Running.{if_all, runs_made, runs_stopped, runs_then}
-use Rattle.cli_model.proofs.Statuses.{OfSteps}
 use Rattle.simdram_cli.specs.declared.words.Command.TheVariants.{Scan}
 use Rattle.simdram_cli.specs.declared.words.ScanNames.{ScanNames}
 use Rattle.simdram_cli.specs.declared.words.TheConstants.{IMAGE_MAX, QUERY_MAX}
@@ -94,7 +66,6 @@ use Rattle.simdram_cli.proofs.JobPlans.{good_file, image_refuses}
 use Rattle.simdram_cli.proofs.Planned.{GivesOwn, IsFailing, IsOneOf, Proved, spares_by, zero_tells}
 use Rattle.simdram_cli.proofs.Progress.{Holds}
 use Rattle.simdram_cli.proofs.Stores.{nothing_read, use_broke, used}
-use Rattle.simdram_cli.proofs.Tallies.{both}
 
 -- a query text
 
@@ -422,13 +393,13 @@ record Small (g : Geometry) : Type 0 where
 
 small_of : (g : Geometry) → is_geometry g ≡ true → Small g
 small_of g e =
-    let one = both (is_between 1 16 g.banks && is_between 64 1006 g.rows
+    let one = and_parts (is_between 1 16 g.banks && is_between 64 1006 g.rows
     && is_between 1 1024 g.words) (fits_size g) e in
-    let two = both (is_between 1 16 g.banks && is_between 64 1006 g.rows)
+    let two = and_parts (is_between 1 16 g.banks && is_between 64 1006 g.rows)
     (is_between 1 1024 g.words) one.0 in
-    let three = both (is_between 1 16 g.banks) (is_between 64 1006 g.rows) two.0 in
-    let banks = both (nat_le 1 g.banks) (nat_le g.banks 16) three.0 in
-    let rows = both (nat_le 64 g.rows) (nat_le g.rows 1006) three.1 in
+    let three = and_parts (is_between 1 16 g.banks) (is_between 64 1006 g.rows) two.0 in
+    let banks = and_parts (nat_le 1 g.banks) (nat_le g.banks 16) three.0 in
+    let rows = and_parts (nat_le 64 g.rows) (nat_le g.rows 1006) three.1 in
     record { banks = leb-true g.banks 16 banks.1; rows = leb-true g.rows 1006 rows.1 }
 
 pub room_opened : (i : Image) (chip : ChipView) → is_geometry i.geometry ≡ true → OpenedOn i chip

@@ -1,12 +1,10 @@
 -- An accepted script has no more instructions than bytes and one.
-use Rattle.std.proofs.Common.{◌≡◌, ℕ, ◌+◌, ◌≤◌, List, [], ◌∷◌, length, Option, Some, None, refl}
-use Rattle.std.proofs.Common.{arith, Bool, true, false, cond, subst}
-use Rattle.std.specs.Prelude.{Result, Ok, Err, ◌==◌}
+use Rattle.simdram_cli.proofs.Common.{◌≡◌, ℕ, ◌+◌, ◌≤◌, List, [], ◌∷◌, length, Option, Some, None}
+use Rattle.simdram_cli.proofs.Common.{refl, arith, Bool, true, false, cond, subst, Result, Ok, Err}
+use Rattle.simdram_cli.proofs.Common.{◌==◌, ScriptFault, Instruction, begun, lines_of, script_of}
 use Rattle.bbop_isa.specs.declared.instr.ScriptKind.{ScriptKind}
-use Rattle.bbop_isa.specs.declared.instr.ScriptFault.{ScriptFault}
-use Rattle.bbop_isa.specs.Forms.{Instruction, line_of}
-use Rattle.bbop_isa.specs.Lines.{begun, lines_of}
-use Rattle.bbop_isa.specs.Script.{script_with, go_on, script_from, script_of}
+use Rattle.bbop_isa.specs.Forms.{line_of}
+use Rattle.bbop_isa.specs.Script.{script_with, go_on, script_from}
 
 abbrev AtMost : ℕ → Result (List Instruction) ScriptFault → Type 0
 AtMost n read = (script : List Instruction) → read ≡ Ok script → length script ≤ n

@@ -1,39 +1,26 @@
 -- Lines that are sent one after another.
-use Rattle.std.proofs.Common.{◌≡◌, ◌⊎◌, ℕ, ◌+◌, ◌≤◌, ◌<◌, List, [], ◌∷◌, ◌++◌, Option, Some, None}
-use Rattle.std.proofs.Common.{refl}
-use Rattle.std.proofs.Common.{Bool, true, false, map, length, sym, ◌∙◌, ap, subst, inl, inr, arith}
-use Rattle.std.proofs.Common.{append_assoc, append-nil}
-use Rattle.host_edge.specs.Views.{FolderView, SinkView, Known, IsPrefix, AppendsPart}
-use Rattle.faults.specs.Counts.{Rose}
-use Rattle.dram_model.specs.declared.dram.Counters.{Counters}
-use Rattle.dram_model.specs.declared.geometry.Geometry.{Geometry}
-use Rattle.dram_model.specs.Chip.{Banks, Event, after, all_counted, blank_banks}
-use Rattle.dram_model.specs.View.{ChipView, Did, with_reads}
-use Rattle.object_alloc.specs.Listed.{Named}
-use Rattle.bbop_isa.specs.Forms.{Instruction}
-use Rattle.bbop_isa.specs.Forms as instruction
-use Rattle.wave_model.specs.Schedule.{Turn}
-use Rattle.machine_model.specs.Routines.{Routines}
-use Rattle.machine_model.specs.Refusals.{refusal}
-use Rattle.machine_model.specs.Pieces.{Alone, AreBbops, Wave}
-use Rattle.machine_model.specs.Report.{Said, Answered, line, lines, said_in_rows}
-use Rattle.machine_model.specs.Script.{rows_printed, sum_done}
+use Rattle.simdram_cli.proofs.Common.{◌≡◌, ◌⊎◌, ℕ, ◌+◌, ◌≤◌, ◌<◌, List, [], ◌∷◌, ◌++◌, Option, Some}
+use Rattle.simdram_cli.proofs.Common.{None, refl, Bool, true, false, map, length, sym, ◌∙◌, ap}
+use Rattle.simdram_cli.proofs.Common.{subst, inl, inr, arith, append_assoc, append-nil, FolderView}
+use Rattle.simdram_cli.proofs.Common.{SinkView, Known, AppendsPart, Rose, Counters, Geometry, Banks}
+use Rattle.simdram_cli.proofs.Common.{Event, after, all_counted, blank_banks, ChipView, Did}
+use Rattle.simdram_cli.proofs.Common.{with_reads, Named, Instruction, Turn, Routines, refusal}
+use Rattle.simdram_cli.proofs.Common.{Alone, AreBbops, Wave, Said, line, lines, said_in_rows}
+use Rattle.simdram_cli.proofs.Common.{rows_printed, sum_done, waves_are_answered, StepFault}
+use Rattle.simdram_cli.proofs.Common.{Machine, events_by, geometry_of, is_print, operations_by}
+use Rattle.simdram_cli.proofs.Common.{table_in, DidAndRead, world, ChipUse, IsLeftBy, doing}
+use Rattle.simdram_cli.proofs.Common.{StoppedWithin, Step, Use, Put, Goes, PutFailed, ChipFailed}
+use Rattle.simdram_cli.proofs.Common.{Done, Stopped}
+use Rattle.host_edge.specs.Views.{IsPrefix}
+use Rattle.machine_model.specs.Report.{Answered}
 use Rattle.machine_model.specs.Steps.{reply_to}
-use Rattle.machine_model.proofs.Parts.{waves_are_answered}
-use Rattle.object_steps.specs.declared.fault.StepFault.{StepFault}
-use Rattle.object_steps.specs.declared.fault.StepFault.TheVariants as step_fault
 use Rattle.object_steps.specs.Lines.{DidReadAtMost}
-use Rattle.sim_machine.specs.declared.machine.Machine.{Machine}
-use Rattle.sim_machine.specs.Machine.{events_by, geometry_of, is_print, operations_by, table_in}
-use Rattle.sim_machine.specs.Steps.{DidAndRead}
 use Rattle.sim_machine.proofs.Stepping.{if_same}
-use Rattle.cli_model.specs.World.{world}
-use Rattle.cli_model.specs.Waves.{ChipUse, ChipWave, IsDoneBy, IsLeftBy, StoppedIn, doing}
-use Rattle.transpose_unit.specs.Stopped.{StoppedWithin}
+use Rattle.cli_model.specs.Waves.{ChipWave, IsDoneBy, StoppedIn}
 use Rattle.sim_machine.specs.Opening.{IsLeftUnopened, all_writes}
-use Rattle.cli_model.specs.Steps.{IsLeftUnopened as IsUnopened}
-use Rattle.cli_model.specs.Steps.{Step, Use, UseFor, Put, Print, Goes, Printed, PutFailed}
-use Rattle.cli_model.specs.Steps.{ChipFailed, Done, PrintFailed, Stopped}
+use Rattle.cli_model.specs.Steps.{IsLeftUnopened as IsUnopened, UseFor, Print, Printed, PrintFailed}
+use Rattle.bbop_isa.specs.Forms as instruction
+use Rattle.object_steps.specs.declared.fault.StepFault.TheVariants as step_fault
 use Rattle.simdram_cli.specs.Job.{put_lines, instr_steps, piece_steps, wave_on}
 use Rattle.simdram_cli.specs.Stops.{fault_reason}
 use Rattle.simdram_cli.proofs.Stores.{used, use_broke, sent, line_done, line_unput}

@@ -1,29 +1,18 @@
 -- The rows of an image file have the size that its geometry asks for, and a program file is small.
-use Rattle.std.proofs.Common.{◌≡◌, ℕ, zero, suc, ◌+◌, ◌*◌, ◌<◌, ◌≤◌, List, [], ◌∷◌, ◌++◌, length}
+use Rattle.simdram_cli.proofs.Common.{◌≡◌, ℕ, zero, suc, ◌+◌, ◌*◌, ◌<◌, ◌≤◌, List, [], ◌∷◌, ◌++◌}
+use Rattle.simdram_cli.proofs.Common.{length, sym, ◌∙◌, ap, arith, flat_map, Result, range_with_len}
+use Rattle.simdram_cli.proofs.Common.{length-map, length-append, length-range_with_len, suc-mul}
+use Rattle.simdram_cli.proofs.Common.{Geometry, ImageFault, Rows, rows_in, Found, AllByRecursion}
+use Rattle.simdram_cli.proofs.Common.{IsEntry, Microprogram, IsProgramFile, code_bytes}
+use Rattle.simdram_cli.proofs.Common.{directory_bytes, opening_bytes, program_bytes, length-code}
+use Rattle.simdram_cli.proofs.Common.{head_bytes, shape_bytes, to_le_bytes, w16, w32, name_bytes}
+use Rattle.simdram_cli.proofs.Common.{name_size}
 use Rattle.std.proofs.Common.{Ok}
 use Rattle.std.specs.Prelude.{◌^◌}
-use Rattle.std.proofs.Common.{sym, ◌∙◌, ap, arith}
-use Rattle.std.specs.Prelude.{flat_map, Result}
-use Rattle.std.specs.List.{range_with_len}
-use Rattle.std.proofs.lemmas.List.{length-map, length-append}
-use Rattle.std.proofs.lemmas.List.FromFn.{length-range_with_len}
-use Rattle.std.proofs.Math.Nat.{suc-mul, mul_assoc, mul_comm}
-use Rattle.dram_model.specs.declared.geometry.Geometry.{Geometry}
-use Rattle.object_alloc.specs.Reading.{ImageFault}
+use Rattle.std.proofs.Math.Nat.{mul_assoc, mul_comm}
 use Rattle.object_alloc.specs.Bytes.{bytes_of_bits}
-use Rattle.object_alloc.specs.Spelling.{Rows, rows_bytes, rows_in}
-use Rattle.object_alloc.specs.Reading.{Found, rows_size}
-use Rattle.std.specs.List.{AllByRecursion}
-use Rattle.uprog_code.specs.Programs.{IsEntry}
-use Rattle.uprog_code.specs.Shape.{Microprogram}
-use Rattle.uprog_bin.specs.Opened.{IsProgramFile}
-use Rattle.uprog_bin.specs.Spelling.{code_bytes, directory_bytes, opening_bytes}
-use Rattle.uprog_bin.specs.Spelling.{program_bytes}
-use Rattle.uprog_bin.proofs.Again.{length-code}
-use Rattle.uprog_bin.specs.Spelling.{head_bytes, shape_bytes}
-use Rattle.std.specs.Int.{to_le_bytes, w16, w32}
-use Rattle.file_fields.specs.Fields.{name_bytes}
-use Rattle.file_fields.proofs.Padded.{name_size}
+use Rattle.object_alloc.specs.Spelling.{rows_bytes}
+use Rattle.object_alloc.specs.Reading.{rows_size}
 
 length_pieces : (size : ℕ) (f : ℕ → List ℕ) (a n : ℕ) → ((k : ℕ) → length (f k) ≡ size)
     → length (flat_map f (range_with_len a n)) ≡ n * size

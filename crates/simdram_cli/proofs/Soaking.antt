@@ -1,20 +1,13 @@
 -- How a soak goes by its plan, its statuses, its files, and what one that is done promises.
-use Rattle.std.proofs.Common.{◌≡◌, ◌⊎◌, ℕ, List, [], ◌∷◌, ◌++◌, Option, None, append-nil, inl, inr}
-use Rattle.std.proofs.Common.{refl, subst, sym}
-use Rattle.std.specs.Prelude.{Result, Ok, Err}
-use Rattle.host_edge.specs.Views.{Files, Known}
-use Rattle.dram_model.specs.Chip.{Banks, after, blank_banks}
-use Rattle.uprog_code.specs.Shape.{Microprogram}
-use Rattle.cli_model.specs.World.{World}
-use Rattle.cli_model.specs.Steps.{ChipFailed, NoMemory, PutFailed, Reason, Step}
-use Rattle.cli_model.specs.Stands.{sent_by}
+use Rattle.simdram_cli.proofs.Common.{◌≡◌, ◌⊎◌, ℕ, List, [], ◌∷◌, ◌++◌, Option, None, append-nil}
+use Rattle.simdram_cli.proofs.Common.{inl, inr, refl, subst, sym, Result, Ok, Err, Files, Known}
+use Rattle.simdram_cli.proofs.Common.{Banks, after, blank_banks, Microprogram, World, ChipFailed}
+use Rattle.simdram_cli.proofs.Common.{NoMemory, PutFailed, Reason, Step, sent_by, Runs, GoodFor}
+use Rattle.simdram_cli.proofs.Common.{runs_answered, runs_made, runs_stopped, runs_then, OfSteps}
 use Rattle.cli_model.specs.Ends.{Ended, All, EndsSo, IsAllDone}
 use Rattle.cli_model.specs.Plan.{Way, last_status, refused_last, steps_of}
-use Rattle.cli_model.specs.Runs.{LeavesAt, Runs, TellsLast}
+use Rattle.cli_model.specs.Runs.{LeavesAt, TellsLast}
 use Rattle.cli_model.proofs.Giving.{IsAnswered, plan_gives}
-use Rattle.cli_model.proofs.Owed.{GoodFor}
-use Rattle.cli_model.proofs.Running.{runs_answered, runs_made, runs_stopped, runs_then}
-use Rattle.cli_model.proofs.Statuses.{OfSteps}
 use Rattle.soak_job.specs.declared.cases.Case.{Case}
 use Rattle.soak_job.specs.Cases.{soak_cases, source_kinds}
 use Rattle.soak_job.specs.Words.{after_all}

@@ -1,31 +1,20 @@
 -- What stands where there was no room for one of a query's instructions.
-use Rattle.std.proofs.Common.{◌≡◌, ℕ, ◌+◌, Bool, true, false, List, [], ◌∷◌, ◌++◌, map}
-use Rattle.std.proofs.Common.{cond, refl, sym, ◌∙◌, ap, subst, arith}
-use Rattle.std.specs.Prelude.{◌&&◌}
-use Rattle.dram_model.specs.declared.dram.Counters.{Counters}
-use Rattle.dram_model.specs.declared.geometry.Geometry.{Geometry}
-use Rattle.dram_model.specs.Chip.{after, all_counted}
-use Rattle.dram_model.specs.View.{ChipView, Did}
-use Rattle.dram_model.proofs.EventLaws.{LogIs-more}
-use Rattle.object_alloc.specs.Listed.{Named}
-use Rattle.bbop_isa.specs.Forms.{Instruction, Free}
-use Rattle.wave_model.specs.Schedule.{Ahead}
-use Rattle.machine_model.specs.declared.Why.{Why}
-use Rattle.machine_model.specs.Opened.{Image, opened, row_writes}
-use Rattle.machine_model.specs.Pieces.{Alone, Piece, Wave, events_of_pieces, piece_of, pieces}
-use Rattle.machine_model.specs.Pieces.{pieces_from, script_events}
-use Rattle.machine_model.specs.Routines.{Program, Routines, routines_in}
-use Rattle.machine_model.specs.Script.{is_bbop, replies, rows_loaded, sum_done, sum_of, with_counts}
+use Rattle.simdram_cli.proofs.Common.{◌≡◌, ℕ, ◌+◌, Bool, true, false, List, [], ◌∷◌, ◌++◌, map}
+use Rattle.simdram_cli.proofs.Common.{cond, refl, sym, ◌∙◌, ap, subst, arith, ◌&&◌, Counters}
+use Rattle.simdram_cli.proofs.Common.{Geometry, after, all_counted, ChipView, Did, LogIs-more}
+use Rattle.simdram_cli.proofs.Common.{Named, Instruction, Free, Ahead, Why, Image, opened}
+use Rattle.simdram_cli.proofs.Common.{row_writes, Alone, Piece, Wave, events_of_pieces, pieces}
+use Rattle.simdram_cli.proofs.Common.{script_events, Program, Routines, routines_in, is_bbop}
+use Rattle.simdram_cli.proofs.Common.{replies, rows_loaded, sum_done, sum_of, with_counts}
+use Rattle.simdram_cli.proofs.Common.{counted_by_replies, events_are_steps, Machine, geometry_of}
+use Rattle.simdram_cli.proofs.Common.{program_of, table_in, turn_in, query_script, count_of}
+use Rattle.simdram_cli.proofs.Common.{scan_script, scan_refused, Node, Query, nodes_of}
+use Rattle.machine_model.specs.Pieces.{piece_of, pieces_from}
 use Rattle.machine_model.specs.Script.{with_writes}
 use Rattle.machine_model.proofs.Parts.{rows_append}
-use Rattle.machine_model.proofs.Pieces.{counted_by_replies, events_are_steps}
-use Rattle.sim_machine.specs.declared.machine.Machine.{Machine}
-use Rattle.sim_machine.specs.Machine.{geometry_of, program_of, table_in, turn_in}
-use Rattle.scan_model.specs.Answers.{query_script}
-use Rattle.scan_model.specs.Instructions.{count_of, node_instructions, scan_script, script_from}
-use Rattle.scan_model.specs.Laws.{scan_refused}
+use Rattle.scan_model.specs.Instructions.{node_instructions, script_from}
 use Rattle.scan_model.specs.Names.{free_name}
-use Rattle.scan_model.specs.Queries.{And, Node, Not, Or, Query, Test, nodes_of}
+use Rattle.scan_model.specs.Queries.{And, Not, Or, Test}
 use Rattle.scan_model.proofs.Counted.{nothing_is_moved}
 use Rattle.scan_query.specs.Running.{StoppedAt, refused_node}
 use Rattle.simdram_cli.specs.Job.{opened_counters}

@@ -1,17 +1,13 @@
 -- Stores, and the steps at the end of a run.
-use Rattle.std.proofs.Common.{◌≡◌, ℕ, ◌≤◌, Bool, true, false, cond, List, [], ◌∷◌, ◌++◌, Option}
-use Rattle.std.proofs.Common.{Some, None, refl, ◌∙◌, ap, inl, inr, arith}
-use Rattle.std.specs.Prelude.{bytes_eq, IfSome, Result, Ok, Err, OnOk, OnErr, is_err}
-use mathlib.Core.Path.{fun_ext}
-use Rattle.std.proofs.lemmas.Slice.Eq.{bytes_eq-Decides}
-use Rattle.dram_model.specs.View.{ChipView}
-use Rattle.host_edge.specs.Views.{Files, FolderView, SinkView, Known, NoCountFalls}
-use Rattle.faults.specs.Counts.{Rose}
-use Rattle.host_edge.specs.Views.{KeepsOthers, HasBytes, AppendsPart}
-use Rattle.cli_model.specs.Waves.{ChipUse}
-use Rattle.cli_model.specs.World.{World, world, with_file}
-use Rattle.cli_model.specs.Steps.{Take, Use, Store, Put, ReadsOnly, CannotWrite, PutFailed, Done}
-use Rattle.cli_model.specs.Steps.{Stopped, Goes, Used, UseFailed, Stored, Sent, Unstored}
+use Rattle.simdram_cli.proofs.Common.{◌≡◌, ℕ, ◌≤◌, Bool, true, false, cond, List, [], ◌∷◌, ◌++◌}
+use Rattle.simdram_cli.proofs.Common.{Option, Some, None, refl, ◌∙◌, ap, inl, inr, arith, bytes_eq}
+use Rattle.simdram_cli.proofs.Common.{IfSome, Result, Ok, Err, fun_ext, bytes_eq-Decides, ChipView}
+use Rattle.simdram_cli.proofs.Common.{Files, FolderView, SinkView, Known, Rose, AppendsPart}
+use Rattle.simdram_cli.proofs.Common.{ChipUse, World, world, with_file, Take, Use, Store, Put}
+use Rattle.simdram_cli.proofs.Common.{CannotWrite, PutFailed, Done, Stopped, Goes, Stored, Unstored}
+use Rattle.std.specs.Prelude.{OnOk, OnErr, is_err}
+use Rattle.host_edge.specs.Views.{NoCountFalls, KeepsOthers, HasBytes}
+use Rattle.cli_model.specs.Steps.{ReadsOnly, Used, UseFailed, Sent}
 
 different : (other name : List ℕ) → bytes_eq other name ≡ false → other ≡ name → ⊥
 different other name e is = let same = (bytes_eq-Decides other name).1 is in cc

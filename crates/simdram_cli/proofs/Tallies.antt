@@ -1,35 +1,17 @@
 -- What a chip's counters come to.
-use Rattle.std.proofs.Common.{◌≡◌, ℕ, zero, suc, ◌+◌, ◌*◌, List, [], ◌++◌, map, Option}
-use Rattle.std.proofs.Common.{refl, ◌∙◌, ap, subst, arith, append-nil, add-zero}
-use Rattle.std.proofs.Common.{zero-add}
-use Rattle.std.proofs.Common.{true, ◌<◌}
-use Rattle.std.specs.Prelude.{Bool, false, ◌&&◌, flat_map, nat_le}
-use Rattle.std.proofs.lemmas.Bool.{leb-true}
-use Rattle.std.specs.List.{range_with_len}
-use Rattle.std.proofs.Math.Nat.{suc-mul}
-use Rattle.dram_model.specs.declared.dram.Counters.{Counters}
-use Rattle.dram_model.specs.Chip.{Event, Log, LogIs, after, all_counted, Grew}
-use Rattle.dram_model.proofs.EventLaws.{LogIs-more}
-use Rattle.dram_model.specs.Chip.Event.{Write}
-use Rattle.dram_model.specs.View.{with_reads}
-use Rattle.dram_model.proofs.EventLaws.{all_counted-append}
-use Rattle.dram_model.specs.declared.geometry.Geometry.{Geometry}
-use Rattle.dram_model.specs.Geometry.{is_geometry, is_between, fits_size}
-use Rattle.object_alloc.specs.Spelling.{Rows}
-use Rattle.bbop_isa.specs.Forms.{Instruction}
-use Rattle.wave_model.specs.Schedule.{Ahead}
-use Rattle.machine_model.specs.Routines.{Program, routines_in}
-use Rattle.machine_model.specs.Opened.{Image, row_writes, opened}
-use Rattle.machine_model.specs.Pieces.{script_events}
-use Rattle.machine_model.specs.Script.{replies, rows_printed, sum_done, sum_of}
-use Rattle.machine_model.proofs.Pieces.{counted_by_replies}
+use Rattle.simdram_cli.proofs.Common.{and_parts, ◌≡◌, ℕ, zero, suc, ◌+◌, ◌*◌, List, [], ◌++◌, map}
+use Rattle.simdram_cli.proofs.Common.{Option, refl, ◌∙◌, ap, subst, arith, append-nil, zero-add}
+use Rattle.simdram_cli.proofs.Common.{true, ◌<◌, ◌&&◌, flat_map, nat_le, leb-true, range_with_len}
+use Rattle.simdram_cli.proofs.Common.{suc-mul, Counters, Event, Log, LogIs, after, all_counted}
+use Rattle.simdram_cli.proofs.Common.{Grew, LogIs-more, Write, with_reads, all_counted-append}
+use Rattle.simdram_cli.proofs.Common.{Geometry, is_geometry, is_between, fits_size, Rows}
+use Rattle.simdram_cli.proofs.Common.{Instruction, Ahead, Program, routines_in, Image, row_writes}
+use Rattle.simdram_cli.proofs.Common.{opened, script_events, replies, rows_printed, sum_done}
+use Rattle.simdram_cli.proofs.Common.{sum_of, counted_by_replies}
+use Rattle.std.proofs.Common.{add-zero}
+use Rattle.std.specs.Prelude.{Bool, false}
 use Rattle.simdram_cli.specs.Job.{opened_counters, tally_by}
 use Rattle.simdram_cli.proofs.Progress.{Holds}
-
-pub both : (x y : Bool) → (x && y) ≡ true → (x ≡ true) × (y ≡ true)
-both true true e = (refl, refl)
-both true false e = absurd (cc)
-both false y e = absurd (cc)
 
 abbrev pub more_writes : Counters → ℕ → Counters
 more_writes k n = record k { writes = k.writes + n }
@@ -94,9 +76,9 @@ log_is start a b c events is g h = subst (λ (all : List Event). LogIs all c)
 
 pub some_words : (g : Geometry) → is_geometry g ≡ true → 0 < g.words
 some_words g e =
-    let one = both (is_between 1 16 g.banks && is_between 64 1006 g.rows
+    let one = and_parts (is_between 1 16 g.banks && is_between 64 1006 g.rows
     && is_between 1 1024 g.words) (fits_size g) e in
-    let two = both (is_between 1 16 g.banks && is_between 64 1006 g.rows)
+    let two = and_parts (is_between 1 16 g.banks && is_between 64 1006 g.rows)
     (is_between 1 1024 g.words) one.0 in
-    let three = both (nat_le 1 g.words) (nat_le g.words 1024) two.1 in
+    let three = and_parts (nat_le 1 g.words) (nat_le g.words 1024) two.1 in
     leb-true 1 g.words three.0

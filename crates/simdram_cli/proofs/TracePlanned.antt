@@ -1,17 +1,8 @@
 -- The facts of `trace`: its statuses, its files and its memory.
-use Rattle.std.proofs.Common.{◌≡◌, ℕ, Bool, true, false, List, [], ◌∷◌, ◌++◌, Option, None, refl}
-use Rattle.host_edge.specs.Views.{Files}
-use Rattle.bbop_isa.specs.Forms.{Instruction}
-use Rattle.uprog_bin.specs.Opened.{IsProgramFile}
-use Rattle.machine_model.specs.Opened.{Image, opened}
-use Rattle.wave_model.specs.Schedule.{Ahead}
-use Rattle.machine_model.specs.Pieces.{pieces}
-use Rattle.machine_model.specs.Routines.{Program, routines_in}
-use Rattle.cli_model.specs.Faultless.{file_in}
-use Rattle.cli_model.specs.Plan.{Makes}
-use Rattle.cli_model.specs.Steps.{Store}
-use Rattle.cli_model.proofs.Owed.{Gives, GoodFor, NotTen, TakesFirst}
-use Rattle.cli_model.proofs.Statuses.{OfSteps, of_more}
+use Rattle.simdram_cli.proofs.Common.{◌≡◌, ℕ, Bool, true, false, List, [], ◌∷◌, ◌++◌, Option, None}
+use Rattle.simdram_cli.proofs.Common.{refl, Files, Instruction, IsProgramFile, Image, opened, Ahead}
+use Rattle.simdram_cli.proofs.Common.{pieces, Program, routines_in, file_in, Makes, Store, Gives}
+use Rattle.simdram_cli.proofs.Common.{GoodFor, NotTen, TakesFirst, OfSteps, of_more}
 use Rattle.simdram_cli.specs.declared.words.Command.TheVariants.{Trace}
 use Rattle.simdram_cli.specs.declared.words.TraceNames.{TraceNames}
 use Rattle.simdram_cli.specs.declared.words.TheConstants.{IMAGE_MAX, PROG_MAX, SCRIPT_MAX}

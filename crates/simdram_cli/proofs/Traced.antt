@@ -1,40 +1,23 @@
 -- What a recorded execution promises.
-use Rattle.std.proofs.Common.{◌≡◌, ℕ, ◌*◌, ◌<◌, ◌≤◌, ◌^◌, Bool, true, false, leb, List}
-use Rattle.std.proofs.Common.{None}
-use Rattle.std.proofs.Common.{[], ◌∷◌, ◌++◌, Some, refl, sym, ◌∙◌, ap, subst}
-use Rattle.std.proofs.Common.{arith, append-nil, length, length-append}
-use Rattle.std.specs.Prelude.{Result, Ok, Err, ◌≢◌, bytes_eq}
-use Rattle.std.specs.Result.{result_ok}
-use Rattle.dram_model.specs.View.{ChipView}
-use Rattle.std.specs.Int.{to_le_bytes, w32}
-use Rattle.std.proofs.lemmas.Bool.{leb-true}
-use Rattle.std.proofs.lemmas.List.Concat.{flat_map-cons}
-use Rattle.host_edge.specs.Views.{Files, Known}
-use Rattle.dram_model.specs.declared.geometry.Geometry.{Geometry}
-use Rattle.dram_model.specs.Chip.{Banks, Event}
-use Rattle.object_alloc.specs.Spelling.{image_bytes}
-use Rattle.bbop_isa.specs.declared.instr.ScriptFault.{ScriptFault}
-use Rattle.bbop_isa.specs.Forms.{Instruction}
-use Rattle.bbop_isa.specs.Script.{script_of}
-use Rattle.machine_model.specs.Opened.{Image, opened, rows_in_banks}
-use Rattle.machine_model.specs.Routines.{Program, routines_in}
-use Rattle.wave_model.specs.Schedule.{Ahead}
-use Rattle.machine_model.specs.Pieces.{pieces}
-use Rattle.machine_model.specs.Report.{lines, total_line}
-use Rattle.machine_model.specs.Script.{table_at_end}
+use Rattle.simdram_cli.proofs.Common.{and_parts, ◌≡◌, ℕ, ◌*◌, ◌<◌, ◌≤◌, ◌^◌, Bool, true, false}
+use Rattle.simdram_cli.proofs.Common.{List, None, [], ◌∷◌, ◌++◌, Some, refl, sym, ◌∙◌, ap, subst}
+use Rattle.simdram_cli.proofs.Common.{arith, append-nil, length, Result, Ok, Err, ◌≢◌, bytes_eq}
+use Rattle.simdram_cli.proofs.Common.{result_ok, ChipView, to_le_bytes, w32, leb-true}
+use Rattle.simdram_cli.proofs.Common.{flat_map-cons, Files, Known, Geometry, Banks, Event}
+use Rattle.simdram_cli.proofs.Common.{image_bytes, ScriptFault, Instruction, script_of, Image}
+use Rattle.simdram_cli.proofs.Common.{opened, rows_in_banks, Program, routines_in, Ahead, pieces}
+use Rattle.simdram_cli.proofs.Common.{lines, total_line, table_at_end, script_trace, IsTrace, Trace}
+use Rattle.simdram_cli.proofs.Common.{bytes_of_trace, trace_bytes, World, with_file, Store}
+use Rattle.simdram_cli.proofs.Common.{files_after, sent_by, IsDelivered, known_delivered}
+use Rattle.simdram_cli.proofs.Common.{files_append, sent_append, Delivers, at_other, at_own}
+use Rattle.simdram_cli.proofs.Common.{bytes_differ}
+use Rattle.std.proofs.Common.{leb, length-append}
 use Rattle.trace_model.specs.Recorder.{events_size}
-use Rattle.trace_model.specs.Replay.{script_trace}
-use Rattle.trace_model.specs.Spelling.{IsTrace, Trace, bytes_of_trace, event_bytes, events_bytes}
-use Rattle.trace_model.specs.Spelling.{trace_bytes, trace_head}
+use Rattle.trace_model.specs.Spelling.{event_bytes, events_bytes, trace_head}
 use Rattle.trace_model.proofs.Files.{files_are_exact, head_length}
 use Rattle.trace_model.proofs.Records.{event_length, fitting_are_few}
 use Rattle.trace_model.proofs.Scripts.{replay_is_script, script_is_trace}
 use Rattle.cmd_trace.specs.declared.sizes.TheConstants.{EVENTS_BYTES_MAX}
-use Rattle.cli_model.specs.World.{World, with_file}
-use Rattle.cli_model.specs.Steps.{Store}
-use Rattle.cli_model.specs.Stands.{files_after, sent_by}
-use Rattle.cli_model.proofs.Delivering.{IsDelivered, known_delivered, files_append, sent_append}
-use Rattle.cli_model.proofs.Delivers.{Delivers}
 use Rattle.simdram_cli.specs.declared.words.TraceNames.{TraceNames}
 use Rattle.simdram_cli.specs.declared.words.TheConstants.{TRACE_MAX}
 use Rattle.simdram_cli.specs.Headline.{read_as}
@@ -51,8 +34,6 @@ use Rattle.simdram_cli.proofs.Executing.{file_program}
 use Rattle.simdram_cli.proofs.Piecewise.{sent_script}
 use Rattle.simdram_cli.proofs.Promised.{RowsDone, pieces_files}
 use Rattle.simdram_cli.proofs.Running.{four_differ, other_way}
-use Rattle.simdram_cli.proofs.Tallies.{both}
-use Rattle.cli_model.proofs.Files.{at_other, at_own, bytes_differ}
 use Rattle.simdram_cli.proofs.Planned.{Proved, spares_by, zero_or_eight_tells}
 use Rattle.simdram_cli.proofs.TracePlanned.{trace_gives, trace_good, trace_takes}
 use Rattle.simdram_cli.specs.declared.words.Command.TheVariants.{Trace as TraceOn}
@@ -154,7 +135,7 @@ trace_within t is e =
 out_apart : (names : TraceNames) → traced_apart names ≡ true
     → bytes_eq names.out.now names.trace.now ≡ false
 out_apart names e =
-    let parts = both (all_differ (names.prog.now ∷ names.script.now ∷ names.trace.now
+    let parts = and_parts (all_differ (names.prog.now ∷ names.script.now ∷ names.trace.now
     ∷ names.image.now ∷ [])) (all_differ (names.prog.now ∷ names.script.now ∷ names.trace.now
     ∷ names.out.now ∷ [])) e in
     other_way names.trace.now names.out.now

@@ -1,50 +1,31 @@
 -- The parts of a recorded execution.
-use Rattle.std.proofs.Common.{◌≡◌, ℕ, ◌+◌, ◌*◌, ◌≤◌, Bool, true, false, List, [], ◌∷◌, ◌++◌}
-use Rattle.std.proofs.Common.{Some, None, refl, sym, ◌∙◌, ap, subst, inl, inr, length}
-use Rattle.std.proofs.Common.{append-nil, append_assoc}
-use Rattle.std.specs.Prelude.{Option, Result, Ok, Err, count_by}
-use Rattle.std.specs.List.{AllByRecursion}
-use Rattle.faults.specs.Counts.{Rose}
-use Rattle.host_edge.specs.Views.{AppendsPart, FolderView, SinkView, Known}
-use Rattle.dram_model.specs.declared.geometry.Geometry.{Geometry}
-use Rattle.dram_model.specs.Geometry.{is_geometry}
-use Rattle.dram_model.specs.Chip.{Banks, Event, Grew, after, all_counted}
-use Rattle.dram_model.specs.View.{ChipView, DidRead, HasBegun, Kept, with_reads}
-use Rattle.dram_model.proofs.EventLaws.{Grew-more}
-use Rattle.object_alloc.specs.Listed.{Listing, Named}
-use Rattle.object_alloc.specs.Spelling.{image_bytes, IsImage}
-use Rattle.uprog_code.specs.Programs.{IsProgram}
-use Rattle.bbop_isa.specs.Forms.{Instruction}
-use Rattle.wave_model.specs.Schedule.{Turn, Ahead}
-use Rattle.machine_model.specs.Agrees.{IsPlain}
-use Rattle.machine_model.specs.Laws.{TableFits}
-use Rattle.machine_model.specs.Opened.{Image, opened, rows_in_banks}
-use Rattle.machine_model.specs.Routines.{Program, Routines, routines_in}
-use Rattle.machine_model.specs.Pieces.{Piece, Wave, Alone, instrs_in, pieces, script_events}
-use Rattle.machine_model.specs.Pieces.{piece_events, turn_after}
-use Rattle.machine_model.specs.Report.{Said, line, said_by, said_in_rows, total_line}
-use Rattle.machine_model.specs.Script.{banks_at_end, is_refused, replies, rows_printed, sum_done}
-use Rattle.machine_model.specs.Script.{table_at_end}
-use Rattle.sim_machine.specs.declared.machine.Machine.{Machine}
-use Rattle.sim_machine.specs.Machine.{geometry_of, is_print, program_of, table_in}
-use Rattle.sim_machine.specs.Steps.{DidAndRead}
-use Rattle.object_steps.specs.Objects.{LiesOn}
-use Rattle.trace_model.specs.Replay.{script_trace}
-use Rattle.trace_model.specs.Spelling.{IsEvent, bytes_of_trace, trace_bytes}
+use Rattle.simdram_cli.proofs.Common.{◌≡◌, ℕ, ◌+◌, ◌*◌, ◌≤◌, Bool, true, false, List, [], ◌∷◌, ◌++◌}
+use Rattle.simdram_cli.proofs.Common.{Some, None, refl, sym, ◌∙◌, ap, subst, inl, inr, length}
+use Rattle.simdram_cli.proofs.Common.{append-nil, append_assoc, Result, Ok, Err, count_by}
+use Rattle.simdram_cli.proofs.Common.{AllByRecursion, Rose, AppendsPart, FolderView, SinkView}
+use Rattle.simdram_cli.proofs.Common.{Known, Geometry, is_geometry, Banks, Event, Grew, after}
+use Rattle.simdram_cli.proofs.Common.{all_counted, ChipView, DidRead, HasBegun, Kept, with_reads}
+use Rattle.simdram_cli.proofs.Common.{Grew-more, Listing, Named, image_bytes, IsImage, IsProgram}
+use Rattle.simdram_cli.proofs.Common.{Instruction, Turn, Ahead, IsPlain, TableFits, Image, opened}
+use Rattle.simdram_cli.proofs.Common.{rows_in_banks, Program, Routines, routines_in, Piece, Wave}
+use Rattle.simdram_cli.proofs.Common.{Alone, instrs_in, pieces, script_events, piece_events}
+use Rattle.simdram_cli.proofs.Common.{turn_after, Said, line, said_by, said_in_rows, total_line}
+use Rattle.simdram_cli.proofs.Common.{banks_at_end, is_refused, replies, rows_printed, sum_done}
+use Rattle.simdram_cli.proofs.Common.{table_at_end, Machine, geometry_of, is_print, program_of}
+use Rattle.simdram_cli.proofs.Common.{table_in, DidAndRead, LiesOn, script_trace, bytes_of_trace}
+use Rattle.simdram_cli.proofs.Common.{trace_bytes, empty_log, recorded, has_begun_below, World}
+use Rattle.simdram_cli.proofs.Common.{world, ChipUse, IsLeftBy, doing, Step, Use, Store, Put}
+use Rattle.simdram_cli.proofs.Common.{Refusal, Reason, Refused, CannotWrite, PutFailed, ChipFailed}
+use Rattle.simdram_cli.proofs.Common.{End, Done, Stopped, Goes, Stored, Unstored, Runs, goes_on}
+use Rattle.simdram_cli.proofs.Common.{stops, runs_answered, runs_stopped, runs_then}
+use Rattle.std.specs.Prelude.{Option}
+use Rattle.trace_model.specs.Spelling.{IsEvent}
 use Rattle.trace_model.proofs.Legal.{events_are_legal}
-use Rattle.cmd_trace.specs.Tape.{NotesView, empty_log, recorded}
-use Rattle.cmd_trace.specs.Widths.{has_begun_below}
+use Rattle.cmd_trace.specs.Tape.{NotesView}
 use Rattle.trace_job.specs.Below.{BeginOnChip, IsLate}
 use Rattle.trace_job.specs.Telling.{Saw, Spelled, all_fit}
 use Rattle.trace_job.proofs.Going.{steps_are_below}
-use Rattle.cli_model.specs.World.{World, world}
-use Rattle.cli_model.specs.Waves.{ChipUse, IsLeftBy, doing}
-use Rattle.cli_model.specs.Steps.{Step, Use, Store, Put, Refusal, Reason, Refused}
-use Rattle.cli_model.specs.Steps.{CannotWrite, PutFailed, ChipFailed, End, Done, Stopped}
-use Rattle.cli_model.specs.Steps.{Goes, Stored, Unstored}
-use Rattle.cli_model.specs.Runs.{Runs}
-use Rattle.cli_model.proofs.Going.{goes_on, stops}
-use Rattle.cli_model.proofs.Running.{runs_answered, runs_refused, runs_stopped, runs_then}
+use Rattle.cli_model.proofs.Running.{runs_refused}
 use Rattle.simdram_cli.specs.declared.words.TraceNames.{TraceNames}
 use Rattle.simdram_cli.specs.declared.stop.Stop.{Stop}
 use Rattle.simdram_cli.specs.declared.stop.Stop.TheVariants as stop

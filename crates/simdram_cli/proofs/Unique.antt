@@ -1,11 +1,7 @@
 -- The files determine the job of the headline.
-use Rattle.std.proofs.Common.{◌≡◌, List, Option, Some, None, refl, sym, ◌∙◌, ap, inr, map}
-use Rattle.uprog_code.specs.Texts.{TextOp, text_op}
-use Rattle.op_text.specs.Language.{Operation}
+use Rattle.simdram_cli.proofs.Common.{◌≡◌, List, Option, Some, None, refl, sym, ◌∙◌, ap, inr, map}
+use Rattle.simdram_cli.proofs.Common.{TextOp, text_op, Operation, Instruction, Program, Image}
 use Rattle.op_text.proofs.Meeting.{ops_of_a_text_are_one}
-use Rattle.bbop_isa.specs.Forms.{Instruction}
-use Rattle.machine_model.specs.Routines.{Program}
-use Rattle.machine_model.specs.Opened.{Image}
 use Rattle.uprog_bin.proofs.Versions.{file_is_one}
 use Rattle.simdram_cli.specs.Headline.{RunJob, Spells, OneJob}
 

@@ -1,21 +1,13 @@
 -- The facts of `verify`: its statuses, its files, its memory, and what one that is done promises.
-use Rattle.std.proofs.Common.{◌≡◌, ℕ, Bool, true, false, cond, List, [], ◌∷◌, ◌++◌, Option, None}
-use Rattle.std.proofs.Common.{append-nil}
-use Rattle.std.proofs.Common.{refl, sym, ◌∙◌, subst}
+use Rattle.simdram_cli.proofs.Common.{◌≡◌, ℕ, Bool, true, false, cond, List, [], ◌∷◌, ◌++◌, Option}
+use Rattle.simdram_cli.proofs.Common.{None, append-nil, refl, sym, ◌∙◌, subst, list_all, Files}
+use Rattle.simdram_cli.proofs.Common.{Known, text_op, World, Take, Loads, Makes, Then, file_in}
+use Rattle.simdram_cli.proofs.Common.{IsDelivered, known_delivered, GoodFor, NotTen, TakesFirst}
 use Rattle.std.specs.Prelude.{map}
-use Rattle.std.specs.List.{list_all}
-use Rattle.host_edge.specs.Views.{Files, Known}
-use Rattle.uprog_code.specs.Texts.{text_op}
 use Rattle.verify_job.specs.declared.finding.OpFindings.{OpFindings}
 use Rattle.verify_job.specs.Findings.{is_right_throughout, may_be_right_throughout, status_of}
 use Rattle.verify_job.specs.Report.{report}
 use Rattle.verify_job.proofs.Found.{all_right}
-use Rattle.cli_model.specs.World.{World}
-use Rattle.cli_model.specs.Steps.{Take}
-use Rattle.cli_model.specs.Plan.{Loads, Makes, Then}
-use Rattle.cli_model.specs.Faultless.{file_in}
-use Rattle.cli_model.proofs.Delivering.{IsDelivered, known_delivered}
-use Rattle.cli_model.proofs.Owed.{GoodFor, NotTen, TakesFirst}
 use Rattle.simdram_cli.specs.declared.words.Command.TheVariants.{Verify}
 use Rattle.simdram_cli.specs.declared.words.VerifyNames.{VerifyNames}
 use Rattle.simdram_cli.specs.declared.words.TheConstants.{OPS_MAX, PROG_MAX}

@@ -1,17 +1,15 @@
 -- The widths that a word lists: its parts, and spans of numbers that rise.
-use Rattle.std.proofs.Common.{◌≡◌, ℕ, zero, suc, ◌+◌, ◌-◌, ◌<◌, ◌≤◌, Bool, true, false, cond, not}
-use Rattle.std.proofs.Common.{List, [], ◌∷◌, ◌++◌, length, take, drop, Option, Some, None, refl}
-use Rattle.std.proofs.Common.{sym, ◌∙◌, ap, subst, arith, flat_map}
-use Rattle.std.specs.Prelude.{◌==◌, ◌&&◌, nat_le, nat_lt}
-use Rattle.std.specs.List.{AllByRecursion, after_first, before_first, list_all, position_or_len}
-use Rattle.std.specs.List.{range_with_len}
-use Rattle.std.specs.Option.{option_map}
+use Rattle.simdram_cli.proofs.Common.{◌≡◌, ℕ, zero, suc, ◌+◌, ◌-◌, ◌<◌, ◌≤◌, Bool, true, false}
+use Rattle.simdram_cli.proofs.Common.{cond, List, [], ◌∷◌, ◌++◌, length, take, drop, Option, Some}
+use Rattle.simdram_cli.proofs.Common.{None, refl, sym, ◌∙◌, ap, subst, arith, ◌==◌, ◌&&◌, nat_le}
+use Rattle.simdram_cli.proofs.Common.{nat_lt, AllByRecursion, list_all, range_with_len, option_map}
+use Rattle.simdram_cli.proofs.Common.{leb-true, WIDTH_MAX, begun}
+use Rattle.std.proofs.lemmas.Bool.{false_from_ne_true, ltb-true}
+use Rattle.std.proofs.Common.{not, flat_map}
+use Rattle.std.specs.List.{after_first, before_first, position_or_len}
 use Rattle.std.proofs.lemmas.List.{append_assoc, append-nil}
 use Rattle.std.proofs.lemmas.List.Elements.{All-from_recursion}
-use Rattle.std.proofs.lemmas.Bool.{leb-true, ltb-true}
 use Rattle.std.proofs.lemmas.Bool.Decides.{nat_tests}
-use Rattle.bit_rows.specs.declared.TheConstants.{WIDTH_MAX}
-use Rattle.bbop_isa.specs.Lines.{begun}
 use Rattle.prog_text.specs.Widths.{AreWidths}
 use Rattle.simdram_cli.specs.Numbers.{is_number, value_of}
 use Rattle.simdram_cli.specs.Widths.{first_of, is_span, last_of, parts_of, rise_from, span_numbers}
@@ -77,10 +75,6 @@ is_below a b lt = grind (arith, nat_tests)
 
 is_within : (a b : ℕ) → a ≤ b → nat_le a b ≡ true
 is_within a b le = grind (arith, nat_tests)
-
-pub not_true : (b : Bool) → (b ≡ true → ⊥) → b ≡ false
-not_true true never = absurd (never refl)
-not_true false never = refl
 
 -- numbers that rise
 
@@ -219,7 +213,7 @@ pub span_not : (low : ℕ) (part : List ℕ)
     → (is_span part && rise_from low (span_numbers part)) ≡ false
 span_not low part never =
     let rise = rise_from low (span_numbers part) in
-    not_true (is_span part && rise) (λ t.
+    false_from_ne_true (is_span part && rise) (λ t.
     let span = first_true (is_span part) rise t in
     let s = span_is part span in
     let a = value_of (first_of part) in
@@ -256,7 +250,7 @@ listed_not low ws part parts e =
     let rest = flat_map span_numbers parts in
     let all = (is_span part && list_all is_span parts) && rise_from low (span_numbers part ++ rest)
     in
-    ap (λ c. cond c (Some (ws ++ (span_numbers part ++ rest))) None) (not_true all (λ t.
+    ap (λ c. cond c (Some (ws ++ (span_numbers part ++ rest))) None) (false_from_ne_true all (λ t.
     let spans = first_true (is_span part && list_all is_span parts)
     (rise_from low (span_numbers part ++ rest)) t in
     let rise = second_true (is_span part && list_all is_span parts)

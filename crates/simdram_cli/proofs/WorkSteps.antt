@@ -1,20 +1,11 @@
 -- The statuses that the steps of a script can give.
-use Rattle.std.proofs.Common.{ℕ, Bool, true, false, List, [], ◌∷◌, length, ◌+◌, ◌++◌}
-use Rattle.bbop_isa.specs.Forms.{Instruction}
-use Rattle.machine_model.specs.Routines.{Program, Routines, routines_in}
-use Rattle.machine_model.specs.Opened.{Image, opened}
-use Rattle.dram_model.specs.declared.geometry.Geometry.{Geometry}
-use Rattle.dram_model.specs.Chip.{Banks}
-use Rattle.object_alloc.specs.Listed.{Named}
-use Rattle.wave_model.specs.Schedule.{Turn, Ahead}
-use Rattle.machine_model.specs.Pieces.{Piece, Wave, Alone, instrs_in, piece_events, pieces, turn_after}
-use Rattle.machine_model.specs.Report.{Said, line, said_by, said_in_rows, total_line}
-use Rattle.machine_model.specs.Script.{banks_at_end, table_at_end}
-use Rattle.sim_machine.specs.Machine.{is_print}
+use Rattle.simdram_cli.proofs.Common.{ℕ, Bool, true, false, List, [], ◌∷◌, length, ◌+◌, ◌++◌}
+use Rattle.simdram_cli.proofs.Common.{Instruction, Program, Routines, routines_in, Image, opened}
+use Rattle.simdram_cli.proofs.Common.{Geometry, Banks, Named, Turn, Ahead, Piece, Wave, Alone}
+use Rattle.simdram_cli.proofs.Common.{instrs_in, piece_events, pieces, turn_after, Said, line}
+use Rattle.simdram_cli.proofs.Common.{said_by, said_in_rows, total_line, banks_at_end, table_at_end}
+use Rattle.simdram_cli.proofs.Common.{is_print, ChipUse, doing, Store, Put, OfSteps, of_more}
 use Rattle.std.specs.Prelude.{Option}
-use Rattle.cli_model.specs.Waves.{ChipUse, doing}
-use Rattle.cli_model.specs.Steps.{Store, Put}
-use Rattle.cli_model.proofs.Statuses.{OfSteps, of_more}
 use Rattle.simdram_cli.specs.Job.{image_by, instr_steps, piece_steps, pieces_steps, put_lines}
 use Rattle.simdram_cli.specs.Job.{reading_by, refused_by, script_steps, tally_by, work_steps}
 

@@ -1,16 +1,10 @@
 -- A case's layout fits on its chip.
-use Rattle.std.proofs.Common.{◌≡◌, ℕ, ◌+◌, ◌≤◌, List, [], ◌∷◌, refl, sym, ap, subst, arith}
-use Rattle.std.proofs.Common.{length, map}
-use Rattle.std.specs.List.{AllByRecursion}
-use Rattle.op_text.specs.declared.tree.Kind.{Kind}
+use Rattle.soak_job.proofs.Common.{◌≡◌, ℕ, ◌+◌, ◌≤◌, List, [], ◌∷◌, refl, sym, ap, subst, arith}
+use Rattle.soak_job.proofs.Common.{length, map, AllByRecursion, Kind, WordOp, Signature, Form}
+use Rattle.soak_job.proofs.Common.{row_of, signature_forms, width, op_shape, Fits}
 use Rattle.op_text.specs.declared.tree.Param.{Param}
-use Rattle.op_text.specs.declared.word_ops.WordOp.{WordOp}
-use Rattle.op_text.specs.declared.word_ops.Signature.{Signature}
+use Rattle.uprog_code.specs.Fits.{AreApart, AreBelow, Range, ranges, scratch_range, written}
 use Rattle.op_text.specs.declared.word_ops.Signature.TheVariants as signs
-use Rattle.op_text.specs.WordOps.{Form, row_of, signature_forms}
-use Rattle.uprog_code.specs.Shape.{width}
-use Rattle.uprog_code.specs.Texts.{op_shape}
-use Rattle.uprog_code.specs.Fits.{AreApart, AreBelow, Fits, Range, ranges, scratch_range, written}
 use Rattle.soak_job.specs.declared.cases.Case.{Case}
 use Rattle.soak_job.specs.Cases.{first_form, one_statement, or_a_word, params_of, source_kinds}
 use Rattle.soak_job.specs.Cases.{source_names}

@@ -1,25 +1,19 @@
 -- How the loops go on: the cases, the values of a source, and the sum of a bank.
-use Rattle.std.proofs.Common.{◌≡◌, ℕ, zero, suc, ◌+◌, ◌*◌, ◌/◌, ◌%◌, ◌^◌, ◌<◌, ◌≤◌, List, [], ◌∷◌}
-use Rattle.std.proofs.Common.{◌++◌, length, map, take, drop, get_or, set, refl, sym, ap, ◌∙◌, arith}
-use Rattle.std.proofs.Common.{append_assoc, cond}
-use Rattle.std.specs.Prelude.{Bool, true, false, not, Option, Some, None, is_none, is_some, sum_by}
-use Rattle.std.specs.Prelude.{All, flat_map}
-use Rattle.std.specs.List.{range_with_len, AllByRecursion}
+use Rattle.soak_job.proofs.Common.{◌≡◌, ℕ, zero, suc, ◌+◌, ◌*◌, ◌/◌, ◌%◌, ◌^◌, ◌<◌, ◌≤◌, List, []}
+use Rattle.soak_job.proofs.Common.{◌∷◌, ◌++◌, length, map, take, drop, get_or, refl, sym, ap, ◌∙◌}
+use Rattle.soak_job.proofs.Common.{arith, cond, not, Option, Some, None, is_none, sum_by, All}
+use Rattle.soak_job.proofs.Common.{flat_map, range_with_len, AllByRecursion, mod-lt, drop-cons}
+use Rattle.soak_job.proofs.Common.{pow_pos, nat_tests, Kind, Word, WordOp, param, second_kind}
+use Rattle.std.proofs.Common.{set, append_assoc}
+use Rattle.std.specs.Prelude.{Bool, true, false, is_some}
 use Rattle.std.proofs.lemmas.List.Elements.{All-from_recursion}
 use Rattle.std.proofs.lemmas.List.Sums.{sum_by-append}
-use Rattle.std.proofs.Math.Nat.{add-mod, mod-eq_of_lt, mod-lt}
+use Rattle.std.proofs.Math.Nat.{add-mod, mod-eq_of_lt}
 use Rattle.std.proofs.Math.Pow.{pow-lt}
-use Rattle.std.proofs.Math.Seq.{take-suc-set, drop-cons}
-use Rattle.std.proofs.lemmas.Nat.{pow_pos}
-use Rattle.std.proofs.lemmas.Bool.Decides.{nat_tests}
+use Rattle.std.proofs.Math.Seq.{take-suc-set}
 use Rattle.std.proofs.lemmas.List.FromFn.{map-range_with_len_more}
 use Rattle.transpose_unit.specs.Stage.{stage_rows}
 use Rattle.rand_xoshiro.specs.SplitMix64.{mix_u64}
-use Rattle.op_text.specs.declared.tree.Kind.{Kind}
-use Rattle.op_text.specs.declared.tree.Kind.TheVariants.{Word}
-use Rattle.op_text.specs.declared.word_ops.WordOp.{WordOp}
-use Rattle.op_text.specs.Scratch.{param}
-use Rattle.op_text.specs.WordOps.{second_kind}
 use Rattle.soak_job.specs.declared.cases.Case.{Case}
 use Rattle.soak_job.specs.Cases.{at_widths, params_of, singles}
 use Rattle.soak_job.specs.Words.{elements, value_at, values_of, word_at}

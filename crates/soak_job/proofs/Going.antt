@@ -1,17 +1,13 @@
 -- How a soak goes through its steps.
-use Rattle.std.proofs.Common.{◌≡◌, ℕ, ◌≤◌, List, [], ◌∷◌, ◌++◌, length, refl, ap}
-use Rattle.std.proofs.Common.{◌∙◌, subst, sym}
-use Rattle.std.proofs.Common.{inl, inr, arith}
-use Rattle.std.specs.Prelude.{Result, Ok, Err, IfOk}
-use Rattle.host_edge.specs.Views.{FolderView, SinkView, Known, AppendsPart}
+use Rattle.soak_job.proofs.Common.{◌≡◌, ℕ, ◌≤◌, List, [], ◌∷◌, ◌++◌, length, refl, ap, ◌∙◌, subst}
+use Rattle.soak_job.proofs.Common.{sym, inl, inr, arith, Result, Ok, Err, IfOk, FolderView, Known}
+use Rattle.soak_job.proofs.Common.{AppendsPart, Counters, Banks, Event, after, ChipView, Kept}
+use Rattle.soak_job.proofs.Common.{StoppedWithin, Did-none, Grew-more, after-append, Microprogram}
+use Rattle.soak_job.proofs.Common.{World, world}
+use Rattle.host_edge.specs.Views.{SinkView}
 use Rattle.faults.specs.Counts.{Rose}
-use Rattle.dram_model.specs.declared.dram.Counters.{Counters}
-use Rattle.dram_model.specs.Chip.{Banks, Event, after}
-use Rattle.dram_model.specs.View.{Began, ChipView, Kept}
-use Rattle.transpose_unit.specs.Stopped.{StoppedWithin}
-use Rattle.dram_model.proofs.EventLaws.{Did-none, Grew-more, LogIs-more, after-append}
-use Rattle.uprog_code.specs.Shape.{Microprogram}
-use Rattle.cli_model.specs.World.{World, world}
+use Rattle.dram_model.specs.View.{Began}
+use Rattle.dram_model.proofs.EventLaws.{LogIs-more}
 use Rattle.cli_model.specs.Waves.{IsLeftBy, doing}
 use Rattle.cli_model.specs.Steps.{Goes, ReadsOnly, Sent, UseFailed, Used}
 use Rattle.soak_job.specs.declared.cases.Case.{Case}

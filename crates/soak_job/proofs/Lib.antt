@@ -1,3 +1,4 @@
+pub mod Common
 mod Meeting
 mod Small
 mod Counting

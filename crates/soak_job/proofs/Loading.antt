@@ -1,30 +1,19 @@
 -- How sources are loaded, one after the other.
-use Rattle.std.proofs.Common.{◌≡◌, ℕ, zero, suc, ◌+◌, ◌*◌, ◌-◌, ◌<◌, ◌≤◌, Bool, false, List, []}
-use Rattle.std.proofs.Common.{◌∷◌}
-use Rattle.std.proofs.Common.{◌++◌, length, map, drop, get_or, refl, sym, ap, ◌∙◌, subst, arith}
-use Rattle.std.proofs.Common.{append-nil}
-use Rattle.std.specs.Prelude.{replicate, flat_map}
-use Rattle.std.specs.List.{range_with_len}
-use Rattle.std.proofs.lemmas.List.{length-append, map-append}
+use Rattle.soak_job.proofs.Common.{◌≡◌, ℕ, zero, suc, ◌+◌, ◌*◌, ◌<◌, ◌≤◌, Bool, false, List, []}
+use Rattle.soak_job.proofs.Common.{◌∷◌, ◌++◌, length, map, drop, get_or, refl, sym, ap, ◌∙◌, subst}
+use Rattle.soak_job.proofs.Common.{arith, append-nil, flat_map, range_with_len, length-append}
+use Rattle.soak_job.proofs.Common.{map-append, nat_tests, Kind, Word, Bit, Counters, Column, Banks}
+use Rattle.soak_job.proofs.Common.{ChipView, Did, below, number, Did-none, StoppedWithin}
+use Rattle.soak_job.proofs.Common.{stopped_before, stopped_later, numbers, width}
+use Rattle.std.proofs.Common.{◌-◌}
+use Rattle.std.specs.Prelude.{replicate}
 use Rattle.std.proofs.lemmas.List.FromFn.{length-map-range_with_len, length-range_with_len}
-use Rattle.std.proofs.lemmas.Bool.Decides.{nat_tests}
 use Rattle.bit_rows.specs.Bits.{value}
-use Rattle.op_text.specs.declared.tree.Kind.{Kind}
-use Rattle.op_text.specs.declared.tree.Kind.TheVariants.{Word, Bit}
 use Rattle.dram_model.specs.declared.address.Cell.TheVariants.{D}
-use Rattle.dram_model.specs.declared.dram.Counters.{Counters}
-use Rattle.dram_model.specs.Column.{Column}
-use Rattle.dram_model.specs.Chip.{Banks}
-use Rattle.dram_model.specs.View.{ChipView, Did}
-use Rattle.dram_model.specs.Elements.{below, number, numbers_in, padded_to, segments_of, size_of}
-use Rattle.dram_model.specs.Elements.{write_events}
-use Rattle.dram_model.proofs.EventLaws.{Did-more, Did-none}
+use Rattle.dram_model.specs.Elements.{numbers_in, padded_to, segments_of, size_of, write_events}
+use Rattle.dram_model.proofs.EventLaws.{Did-more}
 use Rattle.transpose_unit.specs.Laws.{is_in_rows}
-use Rattle.transpose_unit.specs.Stopped.{StoppedWithin}
-use Rattle.transpose_unit.proofs.Stopping.{stopped_before, stopped_later}
 use Rattle.transpose_unit.proofs.Held.{counted_hold, others_hold, rows_are}
-use Rattle.uprog_code.specs.Implements.{numbers}
-use Rattle.uprog_code.specs.Shape.{width}
 use Rattle.soak_job.proofs.Counting.{sum_cons}
 use Rattle.soak_job.specs.Words.{following, after_all, elements, sources_at, value_at, values_of}
 use Rattle.soak_job.specs.Layout.{bases_from, source_row_count, soak_chip, source_writes}

@@ -1,13 +1,10 @@
 -- The file of a case's program.
-use Rattle.std.proofs.Common.{◌≡◌, ℕ, List, [], ◌∷◌}
-use Rattle.std.specs.Prelude.{Result, Ok, Err, IfOk, OnOk, OnErr, true, false}
+use Rattle.soak_job.proofs.Common.{◌≡◌, ℕ, List, [], ◌∷◌, Result, Ok, Err, IfOk, OnOk, OnErr}
+use Rattle.soak_job.proofs.Common.{WordOp, Microprogram, ImplementsAll, text_op, AreExact}
+use Rattle.soak_job.proofs.Common.{program_bytes}
+use Rattle.std.specs.Prelude.{true, false}
 use Rattle.std.specs.Result.{is_err}
-use Rattle.op_text.specs.declared.word_ops.WordOp.{WordOp}
-use Rattle.uprog_code.specs.Shape.{Microprogram}
 use Rattle.uprog_code.specs.Programs.{IsProgram}
-use Rattle.uprog_code.specs.Texts.{ImplementsAll, text_op}
-use Rattle.uprog_gen.specs.Totals.{AreExact}
-use Rattle.uprog_bin.specs.Spelling.{program_bytes}
 use Rattle.soak_job.specs.Cases.{one_statement}
 use Rattle.soak_job.specs.OneCase.{IsFileOf}
 

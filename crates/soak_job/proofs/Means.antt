@@ -1,25 +1,20 @@
 -- What the op of one statement means: the value of its operation.
-use Rattle.std.proofs.Common.{◌≡◌, ℕ, zero, suc, ◌+◌, ◌*◌, ◌/◌, ◌%◌, ◌^◌, ◌==◌, ◌<◌, Bool}
-use Rattle.std.proofs.Common.{true, false, List, [], ◌∷◌, get_or, length, take, cond, refl, ap, ◌∙◌}
-use Rattle.std.proofs.Common.{arith, subst, rules}
-use Rattle.std.specs.Prelude.{None, codes, unwrap_or}
-use Rattle.std.proofs.Math.Nat.{div-le_self, mod-le, mod-lt, pow-succ'}
-use Rattle.std.proofs.lemmas.Nat.{pow_pos}
-use Rattle.std.proofs.lemmas.Bool.Decides.{nat_tests}
+use Rattle.soak_job.proofs.Common.{◌≡◌, ℕ, zero, suc, ◌+◌, ◌*◌, ◌/◌, ◌%◌, ◌^◌, ◌<◌, Bool, true}
+use Rattle.soak_job.proofs.Common.{false, List, [], ◌∷◌, get_or, length, take, cond, refl, ap, ◌∙◌}
+use Rattle.soak_job.proofs.Common.{arith, subst, None, mod-lt, pow_pos, nat_tests, Kind, Word, Bit}
+use Rattle.soak_job.proofs.Common.{WordOp, Signature, Operation, param, Form, row_of}
+use Rattle.soak_job.proofs.Common.{signature_forms, width}
+use Rattle.std.proofs.Common.{◌==◌, rules}
+use Rattle.std.specs.Prelude.{codes, unwrap_or}
+use Rattle.std.proofs.Math.Nat.{div-le_self, mod-le, pow-succ'}
 use Rattle.std.proofs.lemmas.List.Sums.{count_by-le-length}
-use Rattle.op_text.specs.declared.tree.Kind.{Kind}
-use Rattle.op_text.specs.declared.tree.Kind.TheVariants.{Word, Bit}
-use Rattle.op_text.specs.declared.word_ops.WordOp.{WordOp}
-use Rattle.op_text.specs.declared.word_ops.WordOp.TheVariants as o
-use Rattle.op_text.specs.declared.word_ops.Signature.{Signature}
-use Rattle.op_text.specs.declared.word_ops.Signature.TheVariants as signs
-use Rattle.op_text.specs.Language.{Compute, Operation}
-use Rattle.op_text.specs.Scratch.{param}
+use Rattle.op_text.specs.Language.{Compute}
 use Rattle.op_text.specs.Values.{bit_by_bit, bit_number, bits, both, of_none, of_one, of_two}
 use Rattle.op_text.specs.Values.{ones_of, op_value, value}
-use Rattle.op_text.specs.WordOps.{Form, filled, forms, op_text, row_of, signature_forms}
+use Rattle.op_text.specs.WordOps.{filled, forms, op_text}
 use Rattle.op_text.specs.Meaning.{meaning, width as result_width}
-use Rattle.uprog_code.specs.Shape.{width}
+use Rattle.op_text.specs.declared.word_ops.WordOp.TheVariants as o
+use Rattle.op_text.specs.declared.word_ops.Signature.TheVariants as signs
 use Rattle.soak_job.proofs.CaseFits.{form_at}
 use Rattle.soak_job.specs.Cases.{arguments, one_statement, or_a_word, params_of}
 use Rattle.soak_job.specs.Cases.{result_kind, source_kinds, source_names}

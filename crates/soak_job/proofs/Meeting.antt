@@ -1,10 +1,9 @@
 -- The op of one statement breaks no rule, whatever its operation with one result is: computed.
-use Rattle.std.proofs.Common.{◌≡◌, [], ◌∷◌, None, refl}
-use Rattle.op_text.specs.declared.word_ops.WordOp.{WordOp}
-use Rattle.op_text.specs.declared.word_ops.WordOp.TheVariants as o
+use Rattle.soak_job.proofs.Common.{◌≡◌, [], ◌∷◌, refl, WordOp, second_kind}
+use Rattle.std.proofs.Common.{None}
 use Rattle.op_text.specs.Rules.{breach_of}
 use Rattle.op_text.specs.Spelling.{MeetRules}
-use Rattle.op_text.specs.WordOps.{second_kind}
+use Rattle.op_text.specs.declared.word_ops.WordOp.TheVariants as o
 use Rattle.soak_job.specs.Cases.{one_statement}
 
 pub rules_met : (op : WordOp) → second_kind op ≡ None → MeetRules (one_statement op ∷ [])

@@ -1,25 +1,21 @@
 -- A case's program in both banks.
-use Rattle.std.proofs.Common.{◌≡◌, ℕ, zero, suc, ◌*◌, ◌<◌, ◌≤◌, List, [], ◌∷◌, ◌++◌, ap, ◌∙◌}
-use Rattle.std.proofs.Common.{subst, sym, arith, append-nil}
-use Rattle.std.proofs.Common.{take, drop}
-use Rattle.std.specs.Prelude.{Result, Ok, Err, OnOk, OnErr, All}
+use Rattle.soak_job.proofs.Common.{◌≡◌, ℕ, zero, suc, ◌*◌, ◌<◌, ◌≤◌, List, [], ◌∷◌, ◌++◌, ap, ◌∙◌}
+use Rattle.soak_job.proofs.Common.{subst, sym, arith, append-nil, take, drop, Result, Ok, Err, OnOk}
+use Rattle.soak_job.proofs.Common.{OnErr, All, WIDTH_MAX, Geometry, Banks, Event, after, ChipView}
+use Rattle.soak_job.proofs.Common.{Did, DidRead, Grew-more, after-append, StoppedWithin}
+use Rattle.soak_job.proofs.Common.{stopped_before, stopped_later, Fits, Microprogram, Shape, bound}
+use Rattle.soak_job.proofs.Common.{trace, issues_of, StoppedAmong, wave_events, Queues, in_turn}
+use Rattle.soak_job.proofs.Common.{Ahead}
 use Rattle.std.proofs.lemmas.List.{take-append-drop}
 use Rattle.std.proofs.lemmas.List.Elements.{All-cons, All-nil}
-use Rattle.bit_rows.specs.declared.TheConstants.{WIDTH_MAX}
-use Rattle.dram_model.specs.declared.geometry.Geometry.{Geometry}
-use Rattle.dram_model.specs.Chip.{Banks, Event, Grew, after}
-use Rattle.dram_model.specs.View.{ChipView, Did, DidRead, with_reads}
-use Rattle.dram_model.proofs.EventLaws.{Grew-more, after-append}
-use Rattle.transpose_unit.specs.Stopped.{StoppedWithin}
-use Rattle.transpose_unit.proofs.Stopping.{stopped_before, stopped_later}
+use Rattle.dram_model.specs.Chip.{Grew}
+use Rattle.dram_model.specs.View.{with_reads}
 use Rattle.uprog_code.specs.declared.binding.Binding.{Binding}
-use Rattle.uprog_code.specs.Fits.{Fits}
-use Rattle.uprog_code.specs.Shape.{Microprogram, Shape}
-use Rattle.uprog_code.specs.Bound.{Bound, bound, bound_of}
-use Rattle.uprog_code.specs.Machine.{HasEnded, trace, issues_of}
+use Rattle.uprog_code.specs.Bound.{Bound, bound_of}
+use Rattle.uprog_code.specs.Machine.{HasEnded}
 use Rattle.uprog_ctl.specs.Events.{risen}
-use Rattle.uprog_ctl.specs.Waves.{BoundJob, CanRun, StoppedAmong, job_queues, wave_events}
-use Rattle.wave_model.specs.Schedule.{Queues, queues, in_turn, Ahead}
+use Rattle.uprog_ctl.specs.Waves.{BoundJob, CanRun, job_queues}
+use Rattle.wave_model.specs.Schedule.{queues}
 use Rattle.soak_job.specs.declared.cases.Case.{Case}
 use Rattle.soak_job.specs.Layout.{FitsChip, case_queues, issues_at, layout, soak_chip, source_rows}
 use Rattle.soak_job.specs.Layout.{case_events, result_rows, source_writes}

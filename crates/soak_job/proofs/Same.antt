@@ -1,16 +1,11 @@
 -- Soaks of one seed tell the same lines.
-use Rattle.std.proofs.Common.{◌≡◌, ℕ, ◌+◌, ◌*◌, ◌≤◌, List, [], ◌∷◌, ◌++◌, length, refl, sym}
-use Rattle.std.proofs.Common.{◌∙◌, ap, arith}
-use Rattle.std.specs.List.{AllByRecursion}
-use Rattle.bit_rows.specs.declared.TheConstants.{WIDTH_MAX}
-use Rattle.dram_model.specs.Chip.{Banks, after}
-use Rattle.dram_model.specs.View.{ChipView}
+use Rattle.soak_job.proofs.Common.{◌≡◌, ℕ, ◌+◌, ◌*◌, ◌≤◌, List, [], ◌∷◌, ◌++◌, length, refl, sym}
+use Rattle.soak_job.proofs.Common.{◌∙◌, ap, arith, AllByRecursion, WIDTH_MAX, Banks, after}
+use Rattle.soak_job.proofs.Common.{ChipView, Microprogram, Counts}
 use Rattle.uprog_code.specs.Count.{counts_of}
-use Rattle.uprog_code.specs.Shape.{Microprogram}
-use Rattle.uprog_code.specs.declared.walker.Counts.{Counts}
 use Rattle.cli_model.specs.Stands.{sent_by}
-use Rattle.soak_job.specs.declared.cases.Case.{Case}
 use Rattle.uprog_gen.proofs.Costs.Blocks.{words_cost_the_same}
+use Rattle.soak_job.specs.declared.cases.Case.{Case}
 use Rattle.soak_job.specs.Cases.{one_statement, soak_cases, source_kinds}
 use Rattle.soak_job.specs.Words.{after_all}
 use Rattle.soak_job.specs.Layout.{case_events, issues_at}

@@ -1,17 +1,15 @@
 -- A program file has less than 2^32 bytes.
-use Rattle.std.proofs.Common.{◌≡◌, ℕ, ◌+◌, ◌*◌, ◌<◌, ◌≤◌, List, [], ◌∷◌, ◌++◌, length}
-use Rattle.std.specs.Prelude.{◌^◌, flat_map}
-use Rattle.std.proofs.Common.{ap, arith}
-use Rattle.std.specs.List.{AllByRecursion}
-use Rattle.std.proofs.lemmas.List.{length-append}
+use Rattle.soak_job.proofs.Common.{◌≡◌, ℕ, ◌+◌, ◌*◌, ◌<◌, ◌≤◌, List, [], ◌∷◌, ◌++◌, length}
+use Rattle.soak_job.proofs.Common.{flat_map, ap, arith, AllByRecursion, length-append, Microprogram}
+use Rattle.soak_job.proofs.Common.{program_bytes}
+use Rattle.std.specs.Prelude.{◌^◌}
 use Rattle.std.specs.Int.{to_le_bytes, w16, w32}
 use Rattle.file_fields.specs.Fields.{name_bytes}
 use Rattle.file_fields.proofs.Padded.{name_size}
 use Rattle.uprog_code.specs.Programs.{IsEntry}
-use Rattle.uprog_code.specs.Shape.{Microprogram}
 use Rattle.uprog_bin.specs.Opened.{IsProgramFile}
-use Rattle.uprog_bin.specs.Spelling.{code_bytes, directory_bytes, opening_bytes, program_bytes}
-use Rattle.uprog_bin.specs.Spelling.{head_bytes, shape_bytes}
+use Rattle.uprog_bin.specs.Spelling.{code_bytes, directory_bytes, opening_bytes, head_bytes}
+use Rattle.uprog_bin.specs.Spelling.{shape_bytes}
 use Rattle.uprog_bin.proofs.Again.{length-code}
 
 code_small : (m : Microprogram) → IsEntry m → length (code_bytes m) ≤ 8 * 2 ^ 16

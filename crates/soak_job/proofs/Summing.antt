@@ -1,22 +1,9 @@
 -- The numbers that a case's program leaves are its operation's values, and so is their sum.
-use Rattle.std.proofs.Common.{◌≡◌, ℕ, ◌%◌, ◌^◌, ◌<◌, List, [], ◌∷◌, ◌++◌, map, get_or, refl}
-use Rattle.std.proofs.Common.{sym, ap, ◌∙◌, subst, arith}
-use Rattle.std.specs.Prelude.{sum, sum_by}
-use Rattle.std.specs.List.{range_with_len}
-use Rattle.std.proofs.Math.Nat.{mod-lt}
-use Rattle.std.proofs.lemmas.Nat.{pow_pos}
-use Rattle.std.proofs.lemmas.List.{map-append}
-use Rattle.std.proofs.lemmas.List.Sums.{sum-map}
-use Rattle.dram_model.specs.declared.address.Command.{Command}
-use Rattle.dram_model.specs.Column.{Column, run}
-use Rattle.dram_model.specs.Chip.{Banks}
-use Rattle.dram_model.specs.Elements.{below, number}
-use Rattle.op_text.specs.declared.tree.Kind.{Kind}
-use Rattle.uprog_code.specs.Shape.{Microprogram, Shape, width}
-use Rattle.uprog_code.specs.Machine.{trace, issues_of}
-use Rattle.uprog_code.specs.Bound.{bound}
-use Rattle.uprog_code.specs.Implements.{numbers}
-use Rattle.uprog_code.specs.Texts.{EntryDoes, op_shape, text_op}
+use Rattle.soak_job.proofs.Common.{◌≡◌, ℕ, ◌%◌, ◌^◌, ◌<◌, List, [], ◌∷◌, ◌++◌, map, get_or, refl}
+use Rattle.soak_job.proofs.Common.{sym, ap, ◌∙◌, subst, arith, sum, sum_by, range_with_len, mod-lt}
+use Rattle.soak_job.proofs.Common.{pow_pos, map-append, sum-map, Command, Column, run, Banks, below}
+use Rattle.soak_job.proofs.Common.{number, Kind, Microprogram, Shape, width, trace, issues_of}
+use Rattle.soak_job.proofs.Common.{bound, numbers, EntryDoes, op_shape, text_op}
 use Rattle.soak_job.specs.declared.cases.Case.{Case}
 use Rattle.soak_job.specs.Cases.{one_statement, source_kinds}
 use Rattle.soak_job.specs.Words.{following, elements, sources_at, word_at}

@@ -1,16 +1,11 @@
 -- How many commands a plain instruction on copies has.
-use Rattle.std.proofs.Common.{◌≡◌, ℕ, ◌+◌, ◌*◌, ◌≤◌, [], ◌∷◌}
-use Rattle.std.proofs.Common.{subst}
-use Rattle.std.proofs.Common.{arith, sym}
-use Rattle.uprog_code.specs.declared.TheConstants.{WALK_MAX}
-use Rattle.bbop_isa.specs.Forms.{Instruction, Init, Bbop, Load, Fill, Print, Free, Order}
-use Rattle.machine_model.specs.declared.Reply.{Reply}
+use Rattle.tmr_guard.proofs.Common.{◌≡◌, ℕ, ◌+◌, ◌*◌, ◌≤◌, [], ◌∷◌, subst, arith, sym, WALK_MAX}
+use Rattle.tmr_guard.proofs.Common.{Instruction, Init, Bbop, Load, Fill, Print, Free, Order, Reply}
+use Rattle.tmr_guard.proofs.Common.{Machine, geometry_of, program_of, reply_of, table_in, on_copy}
 use Rattle.machine_model.specs.Agrees.{IsPlain}
 use Rattle.machine_model.specs.Script.{counted_in}
 use Rattle.machine_model.proofs.Bounds.{work_is_bounded}
-use Rattle.sim_machine.specs.declared.machine.Machine.{Machine}
-use Rattle.sim_machine.specs.Machine.{IsLaidOut, geometry_of, program_of, reply_of, table_in}
-use Rattle.guard_model.specs.Guarded.{on_copy}
+use Rattle.sim_machine.specs.Machine.{IsLaidOut}
 
 pub copy_plain : (c : ℕ) (instr : Instruction) → IsPlain instr → IsPlain (on_copy c instr)
 copy_plain c (Init name count n) h = h

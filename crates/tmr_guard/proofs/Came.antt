@@ -1,12 +1,7 @@
 -- What follows from what comes of a guarded instruction.
-use Rattle.std.proofs.Common.{◌≡◌, ℕ}
-use Rattle.std.specs.Prelude.{Result, Ok, Err, IfOk, OnOk, OnErr, IsErrOf}
-use Rattle.host_edge.specs.Views.{SinkView}
-use Rattle.dram_model.specs.View.{ChipView}
-use Rattle.bbop_isa.specs.Forms.{Instruction}
-use Rattle.machine_model.specs.declared.Reply.{Reply}
-use Rattle.object_steps.specs.declared.fault.StepFault.{StepFault}
-use Rattle.sim_machine.specs.declared.machine.Machine.{Machine}
+use Rattle.tmr_guard.proofs.Common.{◌≡◌, ℕ, Result, Ok, Err, IfOk, OnOk, OnErr, SinkView, ChipView}
+use Rattle.tmr_guard.proofs.Common.{Instruction, Reply, StepFault, Machine}
+use Rattle.std.specs.Prelude.{IsErrOf}
 use Rattle.tmr_guard.specs.Steps.{Came, Guarded, Broke, reply_by}
 
 module _ (old new : Machine) (number : ℕ) (instr : Instruction) (chip chip' : ChipView)

@@ -1,16 +1,15 @@
 -- A row's words, with one bit inverted.
-use Rattle.std.proofs.Common.{◌≡◌, ◌≢◌, ℕ, zero, suc, ◌+◌, ◌*◌, ◌%◌, ◌^◌, ◌<◌, Bool, false, not}
-use Rattle.std.proofs.Common.{List, [], ◌∷◌, ◌++◌, length, get_or, set, refl, sym, ◌∙◌, ap, arith}
-use Rattle.std.proofs.Common.{inl, inr}
+use Rattle.tmr_guard.proofs.Common.{◌≡◌, ℕ, zero, suc, ◌+◌, ◌*◌, ◌%◌, ◌^◌, ◌<◌, Bool, false, not}
+use Rattle.tmr_guard.proofs.Common.{List, [], ◌∷◌, ◌++◌, length, get_or, refl, sym, ◌∙◌, ap, arith}
+use Rattle.tmr_guard.proofs.Common.{inl, inr, bit_xor, bits, with_bit_inverted}
+use Rattle.std.proofs.Common.{◌≢◌, set}
 use Rattle.std.specs.Prelude.{◌==◌}
 use Rattle.std.specs.Int.{bit_at as digit_at}
-use Rattle.std.specs.Int.Bits.{bit_xor}
 use Rattle.std.proofs.lemmas.List.{ext_get_or}
 use Rattle.std.proofs.lemmas.Bool.Decides.{eqb_tells}
 use Rattle.std.proofs.lemmas.Nat.Bits.{bit_at_xor, bit_at-pow_same, bit_at-pow_other, bit_at-lt}
-use Rattle.bit_rows.specs.Bits.{bits, bits_of_words}
+use Rattle.bit_rows.specs.Bits.{bits_of_words}
 use Rattle.bit_rows.proofs.Words.{length-bits, bits-at}
-use Rattle.guard_model.specs.Flips.{with_bit_inverted}
 
 inverted_length : (k : ℕ) (bs : List Bool) → length (with_bit_inverted k bs) ≡ length bs
 inverted_length k [] = refl

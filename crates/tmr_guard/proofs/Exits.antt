@@ -1,26 +1,14 @@
 -- Where the plain instructions on three copies end.
-use Rattle.std.proofs.Common.{◌≡◌, ◌+◌, true, List, [], ◌∷◌, ◌++◌, Option}
-use Rattle.std.proofs.Common.{Some, None}
-use Rattle.std.proofs.Common.{refl, sym, ◌∙◌, ap, subst, arith, append-nil}
-use Rattle.std.specs.Prelude.{flat_map}
-use Rattle.dram_model.specs.declared.geometry.Geometry.{Geometry}
-use Rattle.dram_model.specs.View.{ChipView}
-use Rattle.wave_model.specs.Schedule.{Turn}
-use Rattle.uprog_code.specs.declared.walker.Counts.{Counts}
-use Rattle.object_alloc.specs.Listed.{Named}
-use Rattle.bbop_isa.specs.Forms.{Instruction}
-use Rattle.machine_model.specs.declared.Why.{Why}
-use Rattle.machine_model.specs.declared.Reply.{Reply}
-use Rattle.machine_model.specs.declared.Reply.TheVariants.{Done, Refused}
-use Rattle.machine_model.specs.Routines.{Program, Routines, routines_in}
-use Rattle.machine_model.specs.Refusals.{refusal}
-use Rattle.machine_model.specs.Steps.{reply_by, counts_for, tabled}
-use Rattle.machine_model.specs.Script.{replies, plus, is_refused}
-use Rattle.guard_model.specs.Guarded.{plain_ones, plain_script, guarded_reply, joined, done_ones}
-use Rattle.guard_model.specs.Guarded.{removal}
-use Rattle.guard_model.proofs.Runs.{if_none, none_yet, script_by, script_for, script_done}
-use Rattle.guard_model.proofs.Runs.{script_refused}
-use Rattle.guard_model.proofs.Runs.{done_more, done_first, reply_more, reply_first}
+use Rattle.tmr_guard.proofs.Common.{◌≡◌, ◌+◌, true, List, [], ◌∷◌, ◌++◌, Option, Some, None, refl}
+use Rattle.tmr_guard.proofs.Common.{sym, ◌∙◌, ap, subst, arith, append-nil, flat_map, Geometry}
+use Rattle.tmr_guard.proofs.Common.{ChipView, Turn, Counts, Named, Instruction, Why, Reply, Done}
+use Rattle.tmr_guard.proofs.Common.{Refused, Program, Routines, routines_in, refusal, reply_by}
+use Rattle.tmr_guard.proofs.Common.{counts_for, tabled, replies, plus, is_refused, plain_ones}
+use Rattle.tmr_guard.proofs.Common.{plain_script, joined, done_ones, removal, if_none, none_yet}
+use Rattle.tmr_guard.proofs.Common.{script_by, script_for, script_done, script_refused, done_more}
+use Rattle.tmr_guard.proofs.Common.{done_first}
+use Rattle.guard_model.specs.Guarded.{guarded_reply}
+use Rattle.guard_model.proofs.Runs.{reply_more, reply_first}
 use Rattle.tmr_guard.specs.Steps.{Ran, Replied, One}
 use Rattle.tmr_guard.proofs.Runs.{ran_more, ran_refused}
 

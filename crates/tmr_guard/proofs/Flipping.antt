@@ -1,13 +1,10 @@
 -- A read, one bit inverted, and a write.
-use Rattle.std.proofs.Common.{◌≡◌, ℕ, List, [], ◌∷◌, Bool, ◌∙◌, ap, subst, Result, Ok, Err}
-use Rattle.std.specs.Prelude.{OnOk, OnErr}
-use Rattle.dram_model.specs.Chip.{Event, Grew, SameBut, after}
-use Rattle.dram_model.specs.View.{ChipView, Did, DidRead, FailedIn}
-use Rattle.dram_model.proofs.EventLaws.{Did-more, Grew-more}
-use Rattle.dram_model.specs.Chip.{Banks, happens, row_in}
-use Rattle.dram_model.specs.Chip.Event.{Write}
-use Rattle.guard_model.specs.declared.Flip.{Flip}
-use Rattle.guard_model.specs.Flips.{flipped, with_bit_inverted}
+use Rattle.tmr_guard.proofs.Common.{◌≡◌, ℕ, List, [], ◌∷◌, Bool, ◌∙◌, ap, subst, OnOk, OnErr, Event}
+use Rattle.tmr_guard.proofs.Common.{Grew, after, ChipView, Did, DidRead, FailedIn, Did-more}
+use Rattle.tmr_guard.proofs.Common.{Grew-more, Banks, Write, Flip, with_bit_inverted}
+use Rattle.std.proofs.Common.{Result, Ok, Err}
+use Rattle.dram_model.specs.Chip.{SameBut, happens, row_in}
+use Rattle.guard_model.specs.Flips.{flipped}
 use Rattle.guard_model.proofs.Flips.{flip_is_write}
 
 pub flip_done : (f : Flip) (old now : Banks) (read written : List Bool) → now ≡ old

@@ -1,33 +1,19 @@
 -- What stands where the chip fails in a guarded instruction.
-use Rattle.std.proofs.Common.{◌≡◌, ℕ, Bool, true, false, List, [], ◌∷◌, ◌++◌, map, Option, Some, None}
-use Rattle.std.proofs.Common.{refl, sym, ◌∙◌, ap, subst, append-nil}
-use Rattle.std.specs.Prelude.{flat_map, Result, Ok, Err, OnErr}
-use Rattle.std.proofs.lemmas.List.{map-append}
-use Rattle.dram_model.specs.declared.geometry.Geometry.{Geometry}
-use Rattle.dram_model.specs.Chip.{Banks, Event, after}
-use Rattle.dram_model.specs.View.{ChipView}
-use Rattle.transpose_unit.specs.Stopped.{StoppedWithin}
-use Rattle.transpose_unit.proofs.Stopping.{stopped_before, stopped_later}
-use Rattle.wave_model.specs.Schedule.{Turn}
-use Rattle.uprog_code.specs.declared.walker.Counts.{Counts}
-use Rattle.object_alloc.specs.Listed.{Named}
-use Rattle.bbop_isa.specs.Forms.{Instruction, Init, Bbop, Load, Fill, Print, Free, Order}
-use Rattle.machine_model.specs.declared.Why.{Why}
-use Rattle.machine_model.specs.declared.Reply.{Reply}
-use Rattle.machine_model.specs.declared.Reply.TheVariants.{Done}
-use Rattle.machine_model.specs.Routines.{Program, Routines, routines_in}
-use Rattle.machine_model.specs.Refusals.{refusal}
-use Rattle.machine_model.specs.Steps.{counts_for, tabled}
-use Rattle.machine_model.specs.Script.{is_refused, replies, table_at_end}
-use Rattle.machine_model.specs.Pieces.{Piece, events_of_pieces, piece_events, piece_of, turn_at_end}
-use Rattle.machine_model.proofs.Parts.{pieces_go_on}
-use Rattle.sim_machine.specs.declared.machine.Machine.{Machine}
-use Rattle.sim_machine.specs.Machine.{events_by as plain_events, geometry_of, operations_by}
-use Rattle.sim_machine.specs.Machine.{program_of as program_in, table_in, turn_in}
-use Rattle.sim_machine.proofs.Stepping.{if_same}
-use Rattle.guard_model.specs.Guarded.{done_ones, joined, plain_ones, plain_script, removal}
-use Rattle.guard_model.proofs.Pieces.{all_instrs}
-use Rattle.guard_model.proofs.Runs.{done_first, done_more, if_none, none_yet, script_by}
+use Rattle.tmr_guard.proofs.Common.{◌≡◌, ℕ, Bool, true, false, List, [], ◌∷◌, ◌++◌, map, Option}
+use Rattle.tmr_guard.proofs.Common.{Some, None, refl, sym, ◌∙◌, ap, subst, append-nil, flat_map}
+use Rattle.tmr_guard.proofs.Common.{Result, Ok, Err, OnErr, map-append, Geometry, Banks, Event}
+use Rattle.tmr_guard.proofs.Common.{after, ChipView, StoppedWithin, stopped_before, Turn, Counts}
+use Rattle.tmr_guard.proofs.Common.{Named, Instruction, Init, Bbop, Load, Fill, Print, Free, Order}
+use Rattle.tmr_guard.proofs.Common.{Why, Reply, Done, Program, Routines, routines_in, refusal}
+use Rattle.tmr_guard.proofs.Common.{counts_for, tabled, is_refused, replies, table_at_end}
+use Rattle.tmr_guard.proofs.Common.{events_of_pieces, piece_events, piece_of, turn_at_end}
+use Rattle.tmr_guard.proofs.Common.{pieces_go_on, Machine, geometry_of, operations_by, table_in}
+use Rattle.tmr_guard.proofs.Common.{turn_in, if_same, done_ones, joined, plain_ones, plain_script}
+use Rattle.tmr_guard.proofs.Common.{removal, all_instrs, done_first, done_more, if_none, none_yet}
+use Rattle.tmr_guard.proofs.Common.{script_by}
+use Rattle.transpose_unit.proofs.Stopping.{stopped_later}
+use Rattle.machine_model.specs.Pieces.{Piece}
+use Rattle.sim_machine.specs.Machine.{events_by as plain_events, program_of as program_in}
 use Rattle.tmr_guard.specs.Steps.{One, Ran, events_by}
 use Rattle.tmr_guard.proofs.Exits.{replied_done}
 use Rattle.tmr_guard.proofs.Runs.{refused_events}

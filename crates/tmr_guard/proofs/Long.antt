@@ -1,9 +1,8 @@
 -- Operands whose names are long.
-use Rattle.std.proofs.Common.{◌≡◌, ℕ, ◌<◌, Bool, true, false, ◌||◌, List, [], ◌∷◌, map, length}
-use Rattle.std.proofs.Common.{slice_index_or, zero, suc, refl, ap, sym, ◌∙◌, arith}
-use Rattle.std.specs.List.{list_any}
-use Rattle.bbop_isa.specs.declared.instr.Place.{Place}
-use Rattle.guard_model.specs.Named.{is_long}
+use Rattle.tmr_guard.proofs.Common.{◌≡◌, ℕ, ◌<◌, Bool, true, false, ◌||◌, List, [], ◌∷◌, map}
+use Rattle.tmr_guard.proofs.Common.{length, zero, suc, refl, ap, sym, ◌∙◌, arith, list_any, Place}
+use Rattle.tmr_guard.proofs.Common.{is_long}
+use Rattle.std.proofs.Common.{slice_index_or}
 
 long_names : (places : List Place)
     → list_any (λ (p : Place). is_long p.name) places

@@ -1,7 +1,7 @@
 -- The place of the first instruction that names a long name.
-use Rattle.std.proofs.Common.{◌≡◌, ℕ, Bool, true, false, not, cond, List, [], ◌∷◌, map, length}
-use Rattle.std.proofs.Common.{refl}
-use Rattle.std.proofs.Common.{◌∙◌, ◌+◌, ap, ltb, Some, None, Option}
+use Rattle.tmr_guard.proofs.Common.{◌≡◌, ℕ, Bool, true, false, not, cond, List, [], ◌∷◌, map}
+use Rattle.tmr_guard.proofs.Common.{length, refl, ◌∙◌, ◌+◌, ap, Some, None, Option}
+use Rattle.std.proofs.Common.{ltb}
 use Rattle.std.specs.List.{position, prefix_len}
 use Rattle.std.proofs.lemmas.List.{length-map}
 

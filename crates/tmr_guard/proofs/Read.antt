@@ -1,18 +1,14 @@
 -- Flips, as they are read.
-use Rattle.std.proofs.Common.{◌≡◌, ℕ, ◌+◌, ◌≤◌, Bool, true, false, List, [], ◌∷◌, ◌++◌, length}
-use Rattle.std.proofs.Common.{Option, Some, None, Result, Ok, Err}
-use Rattle.std.proofs.Common.{arith}
-use Rattle.std.specs.Option.{option_map}
+use Rattle.tmr_guard.proofs.Common.{◌≡◌, ℕ, ◌+◌, ◌≤◌, Bool, true, false, List, [], ◌∷◌, ◌++◌}
+use Rattle.tmr_guard.proofs.Common.{length, Option, Some, None, arith, option_map, Geometry, Flip}
+use Rattle.std.proofs.Common.{Result, Ok, Err}
 use Rattle.std.specs.List.{AllByRecursion}
 use Rattle.text_lex.specs.Lexical.{Item, items_of, items_from, IsRight}
-use Rattle.dram_model.specs.declared.geometry.Geometry.{Geometry}
 use Rattle.bbop_isa.specs.Lines.{lines_of}
 use Rattle.bbop_isa.specs.Words.{words_in}
-use Rattle.guard_model.specs.declared.Flip.{Flip}
 use Rattle.guard_model.specs.declared.FlipsKind.{FlipsKind}
 use Rattle.guard_model.specs.declared.FlipsFault.{FlipsFault}
-use Rattle.guard_model.specs.FlipText.{numbers_of, flip_in}
-use Rattle.guard_model.specs.FlipText.{flips_from, flips_of}
+use Rattle.guard_model.specs.FlipText.{numbers_of, flip_in, flips_from, flips_of}
 
 -- the numbers kept, before those that are left, where all words are numbers
 abbrev pub prepend : Bool → List (Option ℕ) → Option (List (Option ℕ)) → Option (List (Option ℕ))

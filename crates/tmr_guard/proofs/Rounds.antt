@@ -1,23 +1,17 @@
 -- Row by row, bank by bank and triple by triple.
-use Rattle.std.proofs.Common.{◌≡◌, ℕ, zero, suc, ◌+◌, ◌*◌, ◌<◌, ◌≤◌, Bool, true, false, not, cond}
-use Rattle.std.proofs.Common.{List, [], ◌∷◌, ◌++◌, length, get_or, take, Option, Some, None, refl}
-use Rattle.std.proofs.Common.{sym, ◌∙◌, ap, subst, arith, append_assoc, append-nil, add-one}
-use Rattle.std.specs.Prelude.{slice_get, All, ◌-◌, ◌/◌}
-use Rattle.std.proofs.lemmas.List.{map-append, take_all}
-use Rattle.dram_model.specs.Chip.{Event}
-use Rattle.dram_model.specs.declared.geometry.Geometry.{Geometry}
+use Rattle.tmr_guard.proofs.Common.{◌≡◌, ℕ, zero, suc, ◌+◌, ◌*◌, ◌<◌, ◌≤◌, Bool, true, false, not}
+use Rattle.tmr_guard.proofs.Common.{cond, List, [], ◌∷◌, ◌++◌, length, get_or, take, Option, Some}
+use Rattle.tmr_guard.proofs.Common.{None, refl, sym, ◌∙◌, ap, subst, arith, append_assoc}
+use Rattle.tmr_guard.proofs.Common.{append-nil, add-one, slice_get, map-append, Event, Geometry}
+use Rattle.tmr_guard.proofs.Common.{row_events, Named, segments, job_events, ChipView, Did}
+use Rattle.tmr_guard.proofs.Common.{Did-more, stranger_from, first_stranger, is_first, is_copy}
+use Rattle.tmr_guard.proofs.Common.{y_letter, z_letter, row_vote, votes, vote_job, vote_events}
+use Rattle.tmr_guard.proofs.Common.{vote_count}
+use Rattle.std.specs.Prelude.{All, ◌-◌, ◌/◌}
+use Rattle.std.proofs.lemmas.List.{take_all}
 use Rattle.dram_model.specs.declared.address.Command.{Command}
-use Rattle.dram_model.specs.Events.{row_events}
 use Rattle.object_alloc.specs.Free.{end_of}
-use Rattle.object_alloc.specs.Listed.{Named}
-use Rattle.machine_model.specs.Columns.{segments}
-use Rattle.machine_model.specs.Steps.{job_events}
-use Rattle.dram_model.specs.View.{ChipView, Did}
-use Rattle.dram_model.proofs.EventLaws.{Did-more}
-use Rattle.guard_model.specs.Triples.{stranger_from, first_stranger, is_first, is_copy, y_letter}
-use Rattle.guard_model.specs.Triples.{z_letter}
 use Rattle.guard_model.proofs.Trios.{copy_is}
-use Rattle.guard_model.specs.Votes.{row_vote, votes, vote_job, vote_events, vote_count}
 
 votes_suc : (x y z a n : ℕ) → votes x y z a (suc n) ≡ votes x y z a n
     ++ row_vote (x + (a + n)) (y + (a + n)) (z + (a + n))

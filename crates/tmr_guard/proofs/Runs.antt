@@ -1,32 +1,26 @@
 -- Plain instructions one after another.
-use Rattle.std.proofs.Common.{◌≡◌, ℕ, zero, suc, ◌+◌, cond, List, [], ◌∷◌}
-use Rattle.std.proofs.Common.{◌++◌}
-use Rattle.std.proofs.Common.{length, map, Option, Some, None, refl, sym, ◌∙◌, ap, subst, arith}
-use Rattle.std.proofs.Common.{append-nil}
-use Rattle.std.specs.Prelude.{is_none, sum_by}
-use Rattle.std.specs.List.{range_with_len}
-use Rattle.std.proofs.lemmas.List.{map-append}
-use Rattle.dram_model.specs.declared.geometry.Geometry.{Geometry}
+use Rattle.tmr_guard.proofs.Common.{◌≡◌, ℕ, zero, suc, ◌+◌, cond, List, [], ◌∷◌, ◌++◌, length, map}
+use Rattle.tmr_guard.proofs.Common.{Option, Some, None, refl, sym, ◌∙◌, ap, subst, arith}
+use Rattle.tmr_guard.proofs.Common.{append-nil, is_none, range_with_len, map-append, Geometry}
+use Rattle.tmr_guard.proofs.Common.{Event, after, Write, ChipView, after-append, Grew-more, Turn}
+use Rattle.tmr_guard.proofs.Common.{Named, Instruction, Init, Bbop, Load, Fill, Print, Free, Order}
+use Rattle.tmr_guard.proofs.Common.{Why, Program, Routines, routines_in, refusal, if_done, tabled}
+use Rattle.tmr_guard.proofs.Common.{sum_done, rows_printed, table_at_end, piece_of, piece_events}
+use Rattle.tmr_guard.proofs.Common.{turn_at_end, events_of_pieces, pieces_go_on, DidAndRead}
+use Rattle.tmr_guard.proofs.Common.{all_instrs}
+use Rattle.std.specs.Prelude.{sum_by}
 use Rattle.dram_model.specs.declared.dram.Counters.{Counters}
 use Rattle.dram_model.specs.declared.address.Command.TheVariants.{Ap, Aap}
-use Rattle.dram_model.specs.Chip.{Event, after, all_counted, counted}
-use Rattle.dram_model.specs.Chip.Event.{Row, Write}
-use Rattle.dram_model.specs.View.{ChipView, with_reads}
-use Rattle.dram_model.proofs.EventLaws.{after-append, all_counted-append, Grew-more, Grew-none}
-use Rattle.wave_model.specs.Schedule.{Turn, queues, last_state, state_after, events_of_picks}
-use Rattle.wave_model.specs.Schedule.{picks, whole_picks, in_turn}
-use Rattle.object_alloc.specs.Listed.{Named}
-use Rattle.bbop_isa.specs.Forms.{Instruction, Init, Bbop, Load, Fill, Print, Free, Order}
-use Rattle.machine_model.specs.declared.Why.{Why}
-use Rattle.machine_model.specs.Routines.{Program, Routines, routines_in}
-use Rattle.machine_model.specs.Refusals.{refusal}
-use Rattle.machine_model.specs.Steps.{if_done, job_of, own_events, table_after, tabled}
-use Rattle.machine_model.specs.Script.{sum_done, rows_if_done, rows_printed, table_at_end}
-use Rattle.machine_model.specs.Pieces.{piece_of, piece_events, turn_after, turn_at_end}
-use Rattle.machine_model.specs.Pieces.{events_of_pieces, wave_queues}
-use Rattle.machine_model.proofs.Parts.{pieces_go_on, rows_append, table_append}
-use Rattle.sim_machine.specs.Steps.{DidAndRead}
-use Rattle.guard_model.proofs.Pieces.{all_instrs}
+use Rattle.dram_model.specs.Chip.{all_counted, counted}
+use Rattle.dram_model.specs.Chip.Event.{Row}
+use Rattle.dram_model.specs.View.{with_reads}
+use Rattle.dram_model.proofs.EventLaws.{all_counted-append, Grew-none}
+use Rattle.wave_model.specs.Schedule.{queues, last_state, state_after, events_of_picks, picks}
+use Rattle.wave_model.specs.Schedule.{whole_picks, in_turn}
+use Rattle.machine_model.specs.Steps.{job_of, own_events, table_after}
+use Rattle.machine_model.specs.Script.{rows_if_done}
+use Rattle.machine_model.specs.Pieces.{turn_after, wave_queues}
+use Rattle.machine_model.proofs.Parts.{rows_append, table_append}
 use Rattle.guard_model.proofs.Runs.{if_some}
 use Rattle.tmr_guard.specs.Steps.{Ran}
 

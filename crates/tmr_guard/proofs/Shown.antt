@@ -1,41 +1,27 @@
 -- What comes of a guarded print.
-use Rattle.std.proofs.Common.{◌≡◌, ℕ, ◌*◌, ◌≤◌, false, cond, List, [], ◌∷◌, ◌++◌, Option, Some}
-use Rattle.std.proofs.Common.{None, refl, sym, ◌∙◌, ap, subst, arith, append-nil}
-use Rattle.std.specs.Prelude.{take, is_none}
-use Rattle.host_edge.specs.Views.{SinkView, Known, AppendsPart}
+use Rattle.tmr_guard.proofs.Common.{◌≡◌, ℕ, ◌*◌, ◌≤◌, false, cond, List, [], ◌∷◌, ◌++◌, Option}
+use Rattle.tmr_guard.proofs.Common.{Some, None, refl, sym, ◌∙◌, ap, subst, arith, append-nil}
+use Rattle.tmr_guard.proofs.Common.{is_none, SinkView, Rose, ChipView, DidRead, StoppedWithin}
+use Rattle.tmr_guard.proofs.Common.{stopped_before, WALK_MAX, Counts, Place, Instruction, Init}
+use Rattle.tmr_guard.proofs.Common.{Bbop, Load, Fill, Print, Free, Order, StepFault, ChipFault}
+use Rattle.tmr_guard.proofs.Common.{WriteFault, Reply, Done, Refused, Why, refusal, reply_by}
+use Rattle.tmr_guard.proofs.Common.{if_done, rows_printed, sum_done, piece_of, piece_events}
+use Rattle.tmr_guard.proofs.Common.{Machine, geometry_of, operations_by, program_of, table_in}
+use Rattle.tmr_guard.proofs.Common.{turn_in, reply_of, DidAndRead, if_same, x_letter, joined}
+use Rattle.tmr_guard.proofs.Common.{place_on, none_yet, script_done, script_for, script_refused}
+use Rattle.std.specs.Prelude.{take}
+use Rattle.host_edge.specs.Views.{Known, AppendsPart}
 use Rattle.host_edge.proofs.Tells.{Known-trans}
-use Rattle.faults.specs.Counts.{Rose}
-use Rattle.dram_model.specs.View.{ChipView, DidRead}
-use Rattle.transpose_unit.specs.Stopped.{StoppedWithin}
-use Rattle.transpose_unit.proofs.Stopping.{stopped_before}
 use Rattle.object_steps.specs.Lines.{DidReadAtMost, values_of}
 use Rattle.bit_rows.specs.declared.TheConstants.{WIDTH_MAX}
-use Rattle.uprog_code.specs.declared.TheConstants.{WALK_MAX}
-use Rattle.uprog_code.specs.declared.walker.Counts.{Counts}
-use Rattle.bbop_isa.specs.declared.instr.Place.{Place}
-use Rattle.bbop_isa.specs.Forms.{Instruction, Init, Bbop, Load, Fill, Print, Free, Order}
-use Rattle.object_steps.specs.declared.fault.StepFault.{StepFault}
-use Rattle.object_steps.specs.declared.fault.StepFault.TheVariants.{ChipFault, WriteFault}
-use Rattle.machine_model.specs.declared.Reply.{Reply}
-use Rattle.machine_model.specs.declared.Reply.TheVariants.{Done, Refused}
-use Rattle.machine_model.specs.declared.Why.{Why}
 use Rattle.machine_model.specs.Columns.{columns}
-use Rattle.machine_model.specs.Refusals.{refusal, rows_of}
-use Rattle.machine_model.specs.Steps.{reply_by, if_done}
-use Rattle.machine_model.specs.Script.{rows_printed, sum_done}
+use Rattle.machine_model.specs.Refusals.{rows_of}
 use Rattle.machine_model.specs.Report.{line, place_text, said_of}
 use Rattle.machine_model.specs.Report.Said.{Answered, Printed}
-use Rattle.machine_model.specs.Pieces.{piece_of, piece_events}
 use Rattle.object_steps.specs.Objects.{RisesAtMost}
-use Rattle.sim_machine.specs.declared.machine.Machine.{Machine}
-use Rattle.sim_machine.specs.Machine.{geometry_of, operations_by, program_of, table_in, turn_in}
-use Rattle.sim_machine.specs.Machine.{is_print, line_shown, reads_by, reply_of}
-use Rattle.sim_machine.specs.Steps.{DidAndRead}
+use Rattle.sim_machine.specs.Machine.{is_print, line_shown, reads_by}
 use Rattle.sim_machine.proofs.Rising.{rises_less}
-use Rattle.sim_machine.proofs.Stepping.{if_same, no_part, print_table}
-use Rattle.guard_model.specs.Triples.{x_letter}
-use Rattle.guard_model.specs.Guarded.{joined, place_on}
-use Rattle.guard_model.proofs.Runs.{none_yet, script_done, script_for, script_refused}
+use Rattle.sim_machine.proofs.Stepping.{no_part, print_table}
 use Rattle.tmr_guard.specs.Steps.{Broke, Guarded, RanBy, line_by, reply_by as answer_by}
 use Rattle.tmr_guard.specs.Steps.{events_by, reads_by as guard_reads, script_by}
 use Rattle.tmr_guard.proofs.Runs.{plus_none, ran_one}

@@ -1,19 +1,14 @@
 -- A call that failed among events.
-use Rattle.std.proofs.Common.{◌≡◌, ℕ, zero, suc, ◌+◌, ◌-◌, ◌*◌, ◌/◌, ◌<◌, List, [], ◌∷◌, ◌++◌, refl}
-use Rattle.std.proofs.Common.{length, get_or, take, sym, ◌∙◌, ap, subst, arith, append_assoc}
-use Rattle.std.proofs.Common.{append-nil, add-one}
-use Rattle.std.specs.Prelude.{flat_map, None, Result, Ok, Err, OnErr}
-use Rattle.std.specs.List.{range_with_len}
-use Rattle.faults.specs.Counts.{Rose}
-use Rattle.dram_model.specs.declared.geometry.Geometry.{Geometry}
-use Rattle.dram_model.specs.Chip.{Banks, Event, Grew, after, bank_of}
-use Rattle.dram_model.specs.View.{ChipView, Did, FailedIn, Kept, StoppedIn}
-use Rattle.dram_model.proofs.EventLaws.{Grew-more, after-append}
-use Rattle.object_alloc.specs.Listed.{Named}
+use Rattle.tmr_guard.proofs.Common.{◌≡◌, ℕ, zero, suc, ◌+◌, ◌-◌, ◌*◌, ◌/◌, ◌<◌, List, [], ◌∷◌, ◌++◌}
+use Rattle.tmr_guard.proofs.Common.{refl, length, get_or, take, sym, ◌∙◌, ap, subst, arith}
+use Rattle.tmr_guard.proofs.Common.{append_assoc, append-nil, add-one, flat_map, Result, Ok, Err}
+use Rattle.tmr_guard.proofs.Common.{OnErr, range_with_len, Rose, Geometry, Banks, Event, Grew}
+use Rattle.tmr_guard.proofs.Common.{after, ChipView, Did, FailedIn, Kept, StoppedIn, Grew-more}
+use Rattle.tmr_guard.proofs.Common.{after-append, Named, job_events, first_stranger, vote_job}
+use Rattle.tmr_guard.proofs.Common.{vote_events}
+use Rattle.std.specs.Prelude.{None}
+use Rattle.dram_model.specs.Chip.{bank_of}
 use Rattle.object_steps.proofs.Valued.{flat_suc}
-use Rattle.machine_model.specs.Steps.{job_events}
-use Rattle.guard_model.specs.Triples.{first_stranger}
-use Rattle.guard_model.specs.Votes.{vote_job, vote_events}
 use Rattle.tmr_guard.proofs.Rounds.{all_taken, more_events}
 
 pub rose_of : {T E : Type 0} (r : Result T E) (es : List Event) (a b : ChipView)

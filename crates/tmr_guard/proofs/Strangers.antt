@@ -1,13 +1,11 @@
 -- The first stranger, three objects at a time.
-use Rattle.std.proofs.Common.{◌≡◌, ℕ, ◌+◌, ◌<◌, ◌≤◌, Bool, true, false, not, cond, List, [], ◌∷◌}
-use Rattle.std.proofs.Common.{length, get_or, drop, Option, Some, refl, sym, ◌∙◌, ap, arith, inl}
-use Rattle.std.proofs.Common.{inr}
-use Rattle.std.specs.Prelude.{slice_get}
-use Rattle.object_alloc.specs.Listed.{Named}
+use Rattle.tmr_guard.proofs.Common.{◌≡◌, ℕ, ◌+◌, ◌<◌, ◌≤◌, Bool, true, false, not, cond, List, []}
+use Rattle.tmr_guard.proofs.Common.{◌∷◌, length, get_or, drop, Option, Some, refl, sym, ◌∙◌, ap}
+use Rattle.tmr_guard.proofs.Common.{arith, inl, inr, slice_get, Named, stranger_from, is_first}
+use Rattle.tmr_guard.proofs.Common.{is_copy, y_letter, z_letter}
 use Rattle.std.proofs.lemmas.List.{drop_more, drop_all}
 use Rattle.std.proofs.lemmas.Bool.{cases_eq}
 use Rattle.tmr_guard.proofs.Rounds.{got}
-use Rattle.guard_model.specs.Triples.{stranger_from, is_first, is_copy, y_letter, z_letter}
 
 -- what is left, from place k on
 pub three_left : (k : ℕ) (table : List Named) (e : Named) → k + 2 < length table

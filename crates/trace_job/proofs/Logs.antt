@@ -1,4 +1,5 @@
 -- The log of a recorder, where it is known.
+use Rattle.std.proofs.lemmas.Bool.{and_parts}
 use Rattle.std.proofs.Common.{◌≡◌, ℕ, ◌*◌, ◌<◌, ◌≤◌, Bool, true, false, cond, leb, List, []}
 use Rattle.std.proofs.Common.{◌∷◌, Option, Some, None, refl, sym, ◌∙◌, ap, subst}
 use Rattle.std.proofs.Common.{arith}
@@ -14,7 +15,7 @@ use Rattle.trace_model.specs.Recorder.{event_size, events_size, known}
 use Rattle.trace_model.specs.Spelling.{IsEvent, trace_bytes}
 use Rattle.cmd_trace.specs.declared.sizes.TheConstants.{EVENTS_BYTES_MAX, HEAD_BYTES_MAX}
 use Rattle.cmd_trace.specs.Tape.{NotesView, empty_log, events_on, is_whole, log_on}
-use Rattle.cmd_trace.proofs.Tapes.{both, log_bits_are, tells}
+use Rattle.cmd_trace.proofs.Tapes.{log_bits_are, tells}
 use Rattle.trace_job.specs.Telling.{Saw, Spelled, TellsWhatFits, all_fit}
 
 -- eight bits of a log for each byte of an event's spelling
@@ -59,7 +60,7 @@ known_case g tape events false legal within grew =
 pub tells_what_fits : TellsWhatFits
 tells_what_fits chip tape events saw =
     let g = chip.geometry in
-    let whole = (both chip.begun (is_whole g tape) saw.begun).1 in
+    let whole = (and_parts chip.begun (is_whole g tape) saw.begun).1 in
     known_case g tape events tape.known saw.legal
     (λ t. let w = tells g tape whole t in
     let bits = log_bits_are tape.count g HEAD_BYTES_MAX tape.bytes _ w.read in

@@ -1,4 +1,5 @@
 -- An event is read as it was spelled, and what is read as an event is its spelling.
+use Rattle.std.proofs.lemmas.Bool.{and_parts}
 use Rattle.std.proofs.Common.{◌≡◌, ℕ, zero, suc, ◌+◌, ◌*◌, ◌^◌, ◌<◌, ◌≤◌, Bool, true, false, ◌&&◌}
 use Rattle.std.proofs.Common.{cond, eqb, ltb, List, [], ◌∷◌, ◌++◌, length, Option, Some, None, refl}
 use Rattle.std.proofs.Common.{sym, ◌∙◌, ap, subst, arith}
@@ -118,16 +119,12 @@ abbrev IsHead : Geometry → Head → Type 0
 IsHead g (Commands bank command) = bank < g.banks
 IsHead g (Writes bank row) = (bank < g.banks) × (row < g.rows)
 
-both : (a b : Bool) → (a && b) ≡ true → (a ≡ true) × (b ≡ true)
-both true b h = (refl, h)
-both false b h = absurd cc
-
 blank_is : (f i j : ℕ) → list_all (λ b. eqb b 0) (f ∷ i ∷ j ∷ []) ≡ true
     → no_address ≡ f ∷ i ∷ j ∷ []
 blank_is f i j h =
-    let a = both (eqb f 0) (list_all (λ b. eqb b 0) (i ∷ j ∷ [])) h in
-    let b = both (eqb i 0) (list_all (λ b. eqb b 0) (j ∷ [])) a.1 in
-    let c = both (eqb j 0) true b.1 in
+    let a = and_parts (eqb f 0) (list_all (λ b. eqb b 0) (i ∷ j ∷ [])) h in
+    let b = and_parts (eqb i 0) (list_all (λ b. eqb b 0) (j ∷ [])) a.1 in
+    let c = and_parts (eqb j 0) true b.1 in
     rw (eqb-true f 0 a.0, eqb-true i 0 b.0, eqb-true j 0 c.0) refl
 
 head_case : (g : Geometry) (h : Head) (a b c d e f i j : ℕ) (x y : Option Addr) (blank : Bool)
@@ -215,11 +212,11 @@ Ranged rows (Ap x) = is_in_range rows x ≡ true
 Ranged rows (Aap x y) = (is_in_range rows x ≡ true) × (is_in_range rows y ≡ true)
 
 legal_ranged : (rows : ℕ) (command : Command) → is_legal rows command ≡ true → Ranged rows command
-legal_ranged rows (Ap x) h = (both (is_in_range rows x) (is_first x) h).0
+legal_ranged rows (Ap x) h = (and_parts (is_in_range rows x) (is_first x) h).0
 legal_ranged rows (Aap x y) h =
-    let b = both (is_in_range rows x && is_first x) (is_in_range rows y && is_second y) h in (
-      (both (is_in_range rows x) (is_first x) b.0).0,
-      (both (is_in_range rows y)
+    let b = and_parts (is_in_range rows x && is_first x) (is_in_range rows y && is_second y) h in (
+      (and_parts (is_in_range rows x) (is_first x) b.0).0,
+      (and_parts (is_in_range rows y)
           (is_second y) b.1).0,
     )
 

@@ -1,12 +1,10 @@
 -- The numbers of a block of columns.
-use Rattle.std.proofs.Common.{◌≡◌, ℕ, ◌+◌, ◌-◌, ◌*◌, ◌/◌, ◌%◌, ◌^◌, ◌<◌, ◌≤◌, List, length}
-use Rattle.std.proofs.Common.{get_or, sym, ap, ◌∙◌, arith, inl, inr}
-use Rattle.std.proofs.lemmas.Bool.{cases_lt}
-use Rattle.bit_rows.specs.Bits.{value, bit_at, bit_in, bits_of_words}
-use Rattle.bit_rows.specs.declared.TheConstants.{WIDTH_MAX}
+use Rattle.transpose_unit.proofs.Common.{◌≡◌, ℕ, ◌+◌, ◌-◌, ◌*◌, ◌/◌, ◌%◌, ◌^◌, ◌<◌, ◌≤◌, List}
+use Rattle.transpose_unit.proofs.Common.{length, get_or, sym, ap, ◌∙◌, arith, inl, inr, cases_lt}
+use Rattle.transpose_unit.proofs.Common.{value, bit_at, bit_in, bits_of_words, WIDTH_MAX}
+use Rattle.dram_model.proofs.RowWrites.{value_bits}
 use Rattle.transpose_unit.specs.Stage.{stage_row, stage_rows, stage_number}
 use Rattle.transpose_unit.proofs.Columns.{stage_bit, map-range, one_row}
-use Rattle.dram_model.proofs.RowWrites.{value_bits}
 use Rattle.transpose_unit.proofs.Rows.{rows-enough}
 use Rattle.transpose_unit.proofs.Sets.{bit-part}
 

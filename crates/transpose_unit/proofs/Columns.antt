@@ -1,21 +1,18 @@
 -- Columns of a stage.
-use Rattle.std.proofs.Common.{◌≡◌, ℕ, zero, suc, ◌+◌, ◌-◌, ◌*◌, ◌/◌, ◌%◌, ◌^◌, ◌<◌, ◌≤◌, Bool, true}
-use Rattle.std.proofs.Common.{false, List, ◌∷◌, ◌++◌, length, get_or, take, drop, map, refl}
-use Rattle.std.proofs.Common.{sym, ap, ◌∙◌, arith, inl, inr, mul-le-mul_right, mul_comm, mul-add}
-use Rattle.std.specs.List.{range_with_len}
+use Rattle.transpose_unit.proofs.Common.{◌≡◌, ℕ, zero, suc, ◌+◌, ◌-◌, ◌*◌, ◌/◌, ◌%◌, ◌^◌, ◌<◌, ◌≤◌}
+use Rattle.transpose_unit.proofs.Common.{Bool, true, false, List, ◌∷◌, ◌++◌, length, get_or, take}
+use Rattle.transpose_unit.proofs.Common.{drop, map, refl, sym, ap, ◌∙◌, arith, inl, inr}
+use Rattle.transpose_unit.proofs.Common.{mul-le-mul_right, mul_comm, mul-add, range_with_len}
+use Rattle.transpose_unit.proofs.Common.{get_or-take, get_or-drop, get_or-map, length-map}
+use Rattle.transpose_unit.proofs.Common.{length-take, length-drop, cases_lt, bool_byte, value}
+use Rattle.transpose_unit.proofs.Common.{bit_at, bit_in, bits_of_words, D, Column, row_in, number}
 use Rattle.std.proofs.Math.Nat.{pow-succ'}
-use Rattle.std.proofs.lemmas.List.{get_or-take, get_or-drop, get_or-map, ext_get_or, length-map}
-use Rattle.std.proofs.lemmas.List.{length-take, length-drop, drop-take, take-take, drop_at, take_at}
+use Rattle.std.proofs.lemmas.List.{ext_get_or, drop-take, take-take, drop_at, take_at}
 use Rattle.std.proofs.lemmas.List.{drop-append-le, take-append-le}
 use Rattle.std.proofs.lemmas.List.FromFn.{length-range_with_len, get_or-range_with_len}
-use Rattle.std.proofs.lemmas.Bool.{cases_lt}
-use mir.Val.{bool_byte}
-use Rattle.bit_rows.specs.Bits.{value, bit_number, bit_at, bit_in, bits_of_words}
+use Rattle.bit_rows.specs.Bits.{bit_number}
 use Rattle.bit_rows.proofs.Words.{words-at}
-use Rattle.dram_model.specs.declared.address.Cell.TheVariants.{D}
-use Rattle.dram_model.specs.Column.{Column, blank}
-use Rattle.dram_model.specs.Chip.{row_in}
-use Rattle.dram_model.specs.Elements.{number}
+use Rattle.dram_model.specs.Column.{blank}
 use Rattle.transpose_unit.specs.Stage.{stage_row, stage_number}
 
 byte-is-number : (b : Bool) → bool_byte b ≡ bit_number b

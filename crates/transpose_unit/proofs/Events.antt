@@ -1,14 +1,11 @@
 -- Writes of rows, one after the other.
-use Rattle.std.proofs.Common.{◌≡◌, ◌≢◌, ℕ, zero, suc, ◌+◌, ◌-◌, ◌*◌, Bool, List, [], ◌∷◌, ◌++◌}
-use Rattle.std.proofs.Common.{take, drop, map, Result, Ok, Err, OnErr, refl, sym, ap, ◌∙◌, arith}
-use Rattle.std.specs.List.{range_with_len, flat_map}
+use Rattle.transpose_unit.proofs.Common.{◌≡◌, ◌≢◌, ℕ, zero, suc, ◌+◌, ◌-◌, ◌*◌, Bool, List, [], ◌∷◌}
+use Rattle.transpose_unit.proofs.Common.{◌++◌, take, drop, map, refl, sym, ap, ◌∙◌, arith}
+use Rattle.transpose_unit.proofs.Common.{range_with_len, flat_map, ne_eqb, bits_of_words, Counters}
+use Rattle.transpose_unit.proofs.Common.{Banks, Event, happens, after, all_counted, Write}
+use Rattle.std.proofs.Common.{Result, Ok, Err, OnErr}
 use Rattle.std.proofs.Math.Nat.{mul-suc}
 use Rattle.std.proofs.lemmas.List.FromFn.{map-range_with_len_more}
-use Rattle.std.proofs.lemmas.Bool.{ne_eqb}
-use Rattle.bit_rows.specs.Bits.{bits_of_words}
-use Rattle.dram_model.specs.declared.dram.Counters.{Counters}
-use Rattle.dram_model.specs.Chip.{Banks, Event, happens, after, all_counted}
-use Rattle.dram_model.specs.Chip.Event.{Write}
 use Rattle.dram_model.proofs.EventLaws.{all_counted-append}
 use Rattle.transpose_unit.specs.Stage.{stage_row, stage_events}
 

@@ -1,16 +1,14 @@
 -- A transpose by steps that each exchange one digit of the numbers of words and bits
-use Rattle.std.proofs.Common.{◌≡◌, ℕ, zero, suc, ◌+◌, ◌-◌, ◌*◌, ◌/◌, ◌%◌, ◌^◌, ◌<◌, ◌≤◌, ◌==◌, Bool}
-use Rattle.std.proofs.Common.{true, false, ◌&&◌, ◌||◌, not, if◌then◌else◌, List, length, get_or}
-use Rattle.std.proofs.Common.{set}
-use Rattle.std.proofs.Common.{refl, sym, ap, ◌∙◌, arith, inl, inr, subst, bit_and, bit_or}
-use Rattle.std.proofs.Common.{◌⊎◌, length-set}
-use Rattle.std.proofs.lemmas.Bool.{cases_eq, cases_lt, and_parts}
-use Rattle.std.proofs.lemmas.Bool.Decides.{nat_tests}
-use Rattle.std.proofs.lemmas.List.{get_or-set_same, get_or-set_other}
-use Rattle.std.proofs.lemmas.Nat.{shr-shr, shr_split, pow_pos}
+use Rattle.transpose_unit.proofs.Common.{◌≡◌, ℕ, zero, suc, ◌+◌, ◌-◌, ◌*◌, ◌/◌, ◌%◌, ◌^◌, ◌<◌, ◌≤◌}
+use Rattle.transpose_unit.proofs.Common.{◌==◌, Bool, true, false, if◌then◌else◌, List, length}
+use Rattle.transpose_unit.proofs.Common.{get_or, set, refl, sym, ap, ◌∙◌, arith, inl, inr, subst}
+use Rattle.transpose_unit.proofs.Common.{length-set, cases_lt, nat_tests, get_or-set_same}
+use Rattle.transpose_unit.proofs.Common.{get_or-set_other, pow_pos, bit_at}
+use Rattle.std.proofs.lemmas.Bool.{and_right, cases_eq, and_parts}
+use Rattle.std.proofs.Common.{◌&&◌, ◌||◌, not, bit_and, bit_or, ◌⊎◌}
+use Rattle.std.proofs.lemmas.Nat.{shr-shr, shr_split}
 use Rattle.std.proofs.lemmas.Nat.Bits.{bit_at_cat_low, bit_at_cat_high, bit_at-zero}
 use mathlib.Core.Bool.{beq}
-use Rattle.bit_rows.specs.Bits.{bit_at}
 use Rattle.bit_rows.proofs.WordBits.{and-bit, or-bit, not-bit}
 use Rattle.transpose_unit.specs.Exchange.{is_weight, IsMask, crossed, IsExchanged}
 use Rattle.transpose_unit.specs.Stage.{IsTransposed}
@@ -100,9 +98,6 @@ lacks w mask h c l e = h c l ∙ ap (λ n. n == 0) e
 and-true : (a b : Bool) → b ≡ true → (a && b) ≡ a
 and-true a b e = grind (arith, e)
 
-and-false : (a b : Bool) → b ≡ false → (a && b) ≡ false
-and-false a b e = grind (arith, e)
-
 or-false : (a b : Bool) → b ≡ false → (a || b) ≡ a
 or-false a b e = grind (arith, e)
 
@@ -116,7 +111,7 @@ lower-bits w mask a b c h m l = or-bit (bit_and a mask) (bit_and b mask * 2 ^ w 
     ∙ elim (digit-of (c / w)) [
       | inl e ↦ or-false _ _ (moved e) ∙ and-bit a mask c ∙ and-true _ _ (has w mask m c l e)
           ∙ sym (if-even (c / w) (bit_at a c) (bit_at b (c - w)) e)
-      | inr e ↦ false-or _ _ (and-bit a mask c ∙ and-false _ _ (lacks w mask m c l e))
+      | inr e ↦ false-or _ _ (and-bit a mask c ∙ and_right _ _ (lacks w mask m c l e))
           ∙ shl-above (bit_and b mask) w c l (digit-above w h c e).0 ∙ and-bit b mask (c - w)
           ∙ and-true _ _ (has w mask m (c - w) (omega arith) (digit-above w h c e).1)
           ∙ sym (if-odd (c / w) (bit_at a c) (bit_at b (c - w)) e)
@@ -126,7 +121,7 @@ lower-bits w mask a b c h m l = or-bit (bit_and a mask) (bit_and b mask * 2 ^ w 
     moved e = elim (cases_lt c w) [
       | inl lt ↦ shl-below (bit_and b mask) w c l lt
       | inr ge ↦ shl-above (bit_and b mask) w c l ge ∙ and-bit b mask (c - w)
-          ∙ and-false _ _ (lacks w mask m (c - w) (omega arith) (digit-below w h c ge e))
+          ∙ and_right _ _ (lacks w mask m (c - w) (omega arith) (digit-below w h c ge e))
     ]
 
 pub upper-bits : (w mask a b c : ℕ) → mask < 2 ^ 64 → IsMask w mask → c < 64
@@ -135,12 +130,12 @@ pub upper-bits : (w mask a b c : ℕ) → mask < 2 ^ 64 → IsMask w mask → c 
 upper-bits w mask a b c small m l =
     or-bit (bit_and (a / 2 ^ w) mask) (bit_and b (2 ^ 64 - 1 - mask)) c
     ∙ elim (digit-of (c / w)) [
-      | inl e ↦ or-false _ _ (and-bit b (2 ^ 64 - 1 - mask) c ∙ and-false _ _
+      | inl e ↦ or-false _ _ (and-bit b (2 ^ 64 - 1 - mask) c ∙ and_right _ _
           (not-bit mask c small l ∙ ap not (has w mask m c l e)))
           ∙ and-bit (a / 2 ^ w) mask c ∙ and-true _ _ (has w mask m c l e) ∙ shr-bit a w c
           ∙ sym (if-even (c / w) (bit_at a (c + w)) (bit_at b c) e)
       | inr e ↦ false-or _ _ (and-bit (a / 2 ^ w) mask c
-          ∙ and-false _ _ (lacks w mask m c l e)) ∙ and-bit b (2 ^ 64 - 1 - mask) c
+          ∙ and_right _ _ (lacks w mask m c l e)) ∙ and-bit b (2 ^ 64 - 1 - mask) c
           ∙ and-true _ _ (not-bit mask c small l ∙ ap not (lacks w mask m c l e))
           ∙ sym (if-odd (c / w) (bit_at a (c + w)) (bit_at b c) e)
     ]

@@ -1,27 +1,23 @@
 -- What the writes of an object leave in the columns.
-use Rattle.std.proofs.Common.{◌≡◌, ℕ, zero, suc, ◌+◌, ◌-◌, ◌*◌, ◌^◌, ◌<◌, ◌≤◌, Bool}
-use Rattle.std.proofs.Common.{false, List, [], ◌∷◌, length, map, drop, replicate}
-use Rattle.std.proofs.Common.{All, refl, sym, ◌∙◌, ap, arith, inl, inr, mul_comm}
-use Rattle.std.specs.List.{range_with_len, flat_map, AllByRecursion}
-use Rattle.std.proofs.lemmas.Bool.{cases_lt}
-use Rattle.std.proofs.lemmas.Bool.Decides.{nat_tests}
+use Rattle.transpose_unit.proofs.Common.{◌≡◌, ℕ, zero, suc, ◌+◌, ◌-◌, ◌*◌, ◌^◌, ◌<◌, ◌≤◌, Bool}
+use Rattle.transpose_unit.proofs.Common.{false, List, [], ◌∷◌, length, map, drop, replicate, refl}
+use Rattle.transpose_unit.proofs.Common.{sym, ◌∙◌, ap, arith, inl, inr, mul_comm, range_with_len}
+use Rattle.transpose_unit.proofs.Common.{flat_map, cases_lt, nat_tests, pow_pos, Geometry, D}
+use Rattle.transpose_unit.proofs.Common.{Column, Counters, Banks, after, all_counted, Write, number}
+use Rattle.transpose_unit.proofs.Common.{column_count, segments_of, numbers_in, size_of, padded_to}
+use Rattle.transpose_unit.proofs.Common.{part_of, row_bits, write_events}
+use Rattle.std.proofs.Common.{All}
+use Rattle.std.specs.List.{AllByRecursion}
 use Rattle.std.proofs.lemmas.List.{take_all}
-use Rattle.std.proofs.lemmas.Nat.{pow_pos}
-use Rattle.dram_model.specs.declared.geometry.Geometry.{Geometry}
 use Rattle.dram_model.specs.declared.address.Cell.{Cell}
-use Rattle.dram_model.specs.declared.address.Cell.TheVariants.{T, Dcc, C, D}
-use Rattle.dram_model.specs.Column.{Column, is_written}
-use Rattle.dram_model.specs.declared.dram.Counters.{Counters}
-use Rattle.dram_model.specs.Chip.{Banks, after, with_row, all_counted}
-use Rattle.transpose_unit.proofs.Events.{banks_counted}
-use Rattle.dram_model.specs.Chip.Event.{Write}
+use Rattle.dram_model.specs.declared.address.Cell.TheVariants.{T, Dcc, C}
+use Rattle.dram_model.specs.Column.{is_written}
+use Rattle.dram_model.specs.Chip.{with_row}
 use Rattle.dram_model.proofs.EventLaws.{on_bank_all}
-pub use Rattle.dram_model.proofs.RowWrites.{rows_are}
 use Rattle.dram_model.proofs.RowWrites.{writes_numbers, OnOwn, each_inside, each_after, all_own}
 use Rattle.dram_model.proofs.RowWrites.{whole, map_parts, all_append, all_take, all_drop, all_zero}
-use Rattle.dram_model.specs.Elements.{number, column_count}
-use Rattle.dram_model.specs.Elements.{segments_of, numbers_in, size_of, padded_to, part_of}
-use Rattle.dram_model.specs.Elements.{row_bits, write_events}
+use Rattle.transpose_unit.proofs.Events.{banks_counted}
+pub use Rattle.dram_model.proofs.RowWrites.{rows_are}
 use Rattle.transpose_unit.specs.Laws.{is_in_rows, WritesHold}
 use Rattle.transpose_unit.proofs.Segments.{bank_events, segments_cover, padded_length, part_length}
 

@@ -1,3 +1,4 @@
+pub mod Common
 mod Exchanges
 mod Sets
 mod Events

@@ -1,11 +1,9 @@
 -- How many rows a stage has.
-use Rattle.std.proofs.Common.{◌≡◌, ℕ, ◌≤◌, ◌<◌, Bool, true, false, nat_le, if◌then◌else◌, refl}
-use Rattle.std.proofs.Common.{arith, ◌+◌, ◌-◌, ◌*◌, ◌^◌, ◌/◌}
-use Rattle.std.proofs.lemmas.Bool.Decides.{nat_tests}
+use Rattle.transpose_unit.proofs.Common.{◌≡◌, ℕ, ◌≤◌, ◌<◌, Bool, true, false, if◌then◌else◌, refl}
+use Rattle.transpose_unit.proofs.Common.{arith, ◌+◌, ◌-◌, ◌*◌, ◌^◌, ◌/◌, nat_tests, mul-add-lt}
+use Rattle.transpose_unit.proofs.Common.{bool_byte, WIDTH_MAX}
+use Rattle.std.proofs.Common.{nat_le}
 use Rattle.std.proofs.Math.Pow.{pow_mono}
-use Rattle.std.proofs.lemmas.Nat.{mul-add-lt}
-use mir.Val.{bool_byte}
-use Rattle.bit_rows.specs.declared.TheConstants.{WIDTH_MAX}
 use Rattle.transpose_unit.specs.Stage.{stage_rows}
 
 pub rows-enough : (n : ℕ) → n ≤ WIDTH_MAX → n ≤ stage_rows n

@@ -1,23 +1,18 @@
 -- The segments of an object: the rows of each, and their writes.
-use Rattle.std.proofs.Common.{◌≡◌, ℕ, zero, suc, ◌+◌, ◌-◌, ◌*◌, ◌<◌, ◌≤◌, Bool, List, ◌++◌, length}
-use Rattle.std.proofs.Common.{get_or, drop, map, replicate, refl, sym, ap, ◌∙◌, arith, inl, inr}
-use Rattle.std.proofs.Common.{mul-le-mul_right, mul_comm, mul-add}
-use Rattle.std.specs.List.{range_with_len, flat_map}
+use Rattle.transpose_unit.proofs.Common.{◌≡◌, ℕ, zero, suc, ◌+◌, ◌-◌, ◌*◌, ◌<◌, ◌≤◌, Bool, List}
+use Rattle.transpose_unit.proofs.Common.{◌++◌, length, get_or, drop, map, replicate, refl, sym, ap}
+use Rattle.transpose_unit.proofs.Common.{◌∙◌, arith, inl, inr, mul-le-mul_right, mul_comm, mul-add}
+use Rattle.transpose_unit.proofs.Common.{range_with_len, flat_map, cases_lt, length-map}
+use Rattle.transpose_unit.proofs.Common.{length-take, length-drop, get_or-take, get_or-drop}
+use Rattle.transpose_unit.proofs.Common.{get_or-map, get_or_append_left, bit_at, bits_of_words}
+use Rattle.transpose_unit.proofs.Common.{Geometry, column_count, Event, Write, segments_of, size_of}
+use Rattle.transpose_unit.proofs.Common.{padded_to, part_of, row_bits}
 use Rattle.std.proofs.lemmas.Grind.{div_ceil_times}
-use Rattle.std.proofs.lemmas.Bool.{cases_lt}
-use Rattle.std.proofs.lemmas.List.{append-nil, append_assoc, length-map, length-take, length-drop}
-use Rattle.std.proofs.lemmas.List.{get_or-take, get_or-drop, get_or-map}
-use Rattle.std.proofs.lemmas.List.{get_or_append_left, get_or-append_right, get_or_past}
-use Rattle.bit_rows.specs.Bits.{bit_at, bits_of_words}
+use Rattle.std.proofs.lemmas.List.{append-nil, append_assoc, get_or-append_right, get_or_past}
 use Rattle.bit_rows.proofs.Words.{words-eq}
-use Rattle.dram_model.specs.declared.geometry.Geometry.{Geometry}
-use Rattle.dram_model.specs.Elements.{column_count}
-use Rattle.dram_model.specs.Chip.{Event}
-use Rattle.dram_model.specs.Chip.Event.{Write}
 use Rattle.dram_model.proofs.RowWrites.{part_length as part_is_long}
 pub use Rattle.dram_model.proofs.RowWrites.{padded_length}
 use Rattle.transpose_unit.specs.Stage.{stage_row, stage_events}
-use Rattle.dram_model.specs.Elements.{segments_of, size_of, padded_to, part_of, row_bits}
 
 -- the segments of a count cover it, and are no more than the banks that do
 pub segments_cover : (g : Geometry) (count : ℕ) → 0 < column_count g → count ≤ size_of g count

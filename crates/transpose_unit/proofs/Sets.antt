@@ -1,13 +1,13 @@
 -- Places of a list that are written one after the other.
-use Rattle.std.proofs.Common.{◌≡◌, ◌≢◌, ℕ, ◌+◌, ◌*◌, ◌/◌, ◌%◌, ◌^◌, ◌==◌, ◌<◌, Bool, List, subst}
-use Rattle.std.proofs.Common.{length, get_or, set, ◌-◌, ◌++◌, mul-add, mul_comm, sym, ap, ◌∙◌}
-use Rattle.std.proofs.Common.{arith, inl, inr}
-use Rattle.std.proofs.lemmas.Bool.{cases_lt}
-use Rattle.std.proofs.lemmas.List.{get_or-set_same, get_or-set_other, get_or_append_left}
+use Rattle.transpose_unit.proofs.Common.{◌≡◌, ◌≢◌, ℕ, ◌+◌, ◌*◌, ◌/◌, ◌%◌, ◌^◌, ◌==◌, ◌<◌, Bool}
+use Rattle.transpose_unit.proofs.Common.{List, subst, length, get_or, set, ◌-◌, ◌++◌, mul-add}
+use Rattle.transpose_unit.proofs.Common.{mul_comm, sym, ap, ◌∙◌, arith, inl, inr, cases_lt}
+use Rattle.transpose_unit.proofs.Common.{get_or-set_same, get_or-set_other, get_or_append_left}
+use Rattle.transpose_unit.proofs.Common.{mul-add-lt, bit_at, bit_in, value}
 use Rattle.std.proofs.lemmas.List.{get_or-append-add}
-use Rattle.std.proofs.lemmas.Nat.{div-mul-add, mul-add-lt, pow-add}
+use Rattle.std.proofs.lemmas.Nat.{div-mul-add, pow-add}
 use Rattle.std.proofs.Math.Nat.{div-div-eq-div-mul}
-use Rattle.bit_rows.specs.Bits.{bit_at, bit_in, bits, value}
+use Rattle.bit_rows.specs.Bits.{bits}
 use Rattle.bit_rows.proofs.Words.{length-bits, bits-at, value-bits, bits-value}
 use Rattle.transpose_unit.specs.Stage.{IsTransposed}
 

@@ -1,13 +1,13 @@
 -- A call that failed in one of several turns of events.
-use Rattle.std.proofs.Common.{◌≡◌, ℕ, zero, suc, ◌+◌, ◌-◌, ◌<◌, List, [], ◌∷◌, ◌++◌, refl, sym, ◌∙◌}
-use Rattle.std.proofs.Common.{ap, arith, append_assoc, append-nil}
+use Rattle.transpose_unit.proofs.Common.{◌≡◌, ℕ, zero, suc, ◌+◌, ◌-◌, ◌<◌, List, [], ◌∷◌, ◌++◌}
+use Rattle.transpose_unit.proofs.Common.{refl, sym, ◌∙◌, ap, arith, range_with_len, ne_eqb, Banks}
+use Rattle.transpose_unit.proofs.Common.{Event, after, happens}
+use Rattle.std.proofs.Common.{append_assoc, append-nil}
 use Rattle.std.specs.Prelude.{flat_map, map}
-use Rattle.std.specs.List.{range_with_len}
-use Rattle.std.proofs.lemmas.Bool.{ne_eqb}
-use Rattle.dram_model.specs.Chip.{Banks, Event, after, bank_of, happens, SameBut}
+use Rattle.dram_model.specs.Chip.{bank_of, SameBut}
 use Rattle.dram_model.specs.View.{ChipView, StoppedIn}
-use Rattle.transpose_unit.specs.Stopped.{StoppedWithin}
 use Rattle.dram_model.proofs.EventLaws.{after-append}
+use Rattle.transpose_unit.specs.Stopped.{StoppedWithin}
 
 turns_more : (E : ℕ → List Event) (a n : ℕ) → flat_map E (range_with_len a (suc n))
     ≡ flat_map E (range_with_len a n) ++ E (a + n)

@@ -1,20 +1,16 @@
 -- What is spelled is read again.
-use Rattle.std.proofs.Common.{◌≡◌, ℕ, zero, suc, ◌+◌, ◌*◌, ◌^◌, ◌<◌, Bool, true, false, not, ◌&&◌}
-use Rattle.std.proofs.Common.{eqb, ltb, leb, List, [], ◌∷◌, length, Some, Result, Ok, refl, ap, ◌∙◌}
-use Rattle.std.proofs.Common.{subst, arith}
-use Rattle.std.specs.Prelude.{slice_get, slice_index, slice_index_or}
-use Rattle.std.specs.List.{flat_map, AllByRecursion}
-use Rattle.std.proofs.lemmas.Bool.{eqb-true, ltb-true, leb-true}
+use Rattle.uprog_bin.proofs.Common.{and_from, and_parts, ◌≡◌, ℕ, zero, suc, ◌+◌, ◌*◌, ◌^◌, ◌<◌}
+use Rattle.uprog_bin.proofs.Common.{Bool, true, false, not, ◌&&◌, eqb, ltb, leb, List, [], ◌∷◌}
+use Rattle.uprog_bin.proofs.Common.{length, Some, Result, Ok, refl, ap, ◌∙◌, subst, arith}
+use Rattle.uprog_bin.proofs.Common.{slice_get, slice_index, slice_index_or, flat_map}
+use Rattle.uprog_bin.proofs.Common.{AllByRecursion, eqb-true, ltb-true, leb-true, length-append}
+use Rattle.uprog_bin.proofs.Common.{flat_map-cons, Uop, Shape, is_legal, is_first, is_second, ◌>>=◌}
+use Rattle.uprog_bin.proofs.Common.{Holds, Holds-front, Holds-back, bytes_again}
 use Rattle.std.proofs.lemmas.Nat.{from_le_bytes-to_le_bytes_2}
-use Rattle.std.proofs.lemmas.List.{length-append}
-use Rattle.std.proofs.lemmas.List.Concat.{flat_map-cons}
 use Rattle.uprog_code.specs.declared.code.RowSpace.{RowSpace}
-use Rattle.uprog_code.specs.declared.code.RowSpace.TheVariants as space
 use Rattle.uprog_code.specs.declared.code.RowRef.{RowRef}
-use Rattle.uprog_code.specs.declared.code.Uop.{Uop}
+use Rattle.uprog_code.specs.declared.code.RowSpace.TheVariants as space
 use Rattle.uprog_code.specs.declared.code.Uop.TheVariants as uop
-use Rattle.uprog_code.specs.Shape.{Shape}
-use Rattle.uprog_code.specs.Legal.{is_legal, is_first, is_second}
 use Rattle.uprog_bin.specs.declared.instruction.Raw.{Raw}
 use Rattle.uprog_bin.specs.declared.opcode.Opcode.{Opcode}
 use Rattle.uprog_bin.specs.declared.opcode.Opcode.TheVariants.{Done, SetI, SetN, SetT, Mov, Add}
@@ -24,16 +20,7 @@ use Rattle.uprog_bin.specs.Spelling.{space_number, instruction_bytes}
 use Rattle.uprog_bin.specs.Reading.{raw_of, operand, row_of, uop_as, uop_of, numbered, uop_at}
 use Rattle.uprog_bin.specs.Reading.{uops_at}
 use Rattle.uprog_bin.proofs.Found.{IsRead}
-use Rattle.file_fields.specs.Fields.{◌>>=◌}
-use Rattle.file_fields.proofs.Held.{Holds, Holds-front, Holds-back, bytes_again}
 use Rattle.uprog_bin.specs.declared.fault.ProgKind.TheVariants as kinds
-
-both : (a b : Bool) → (a && b) ≡ true → (a ≡ true) × (b ≡ true)
-both true b h = (refl, h)
-both false b h = absurd cc
-
-from_both : (a b : Bool) → a ≡ true → b ≡ true → (a && b) ≡ true
-from_both a b p q = rw p q
 
 pub instruction_length : (i : Uop) → length (instruction_bytes i) ≡ 8
 instruction_length uop.Done = refl
@@ -81,7 +68,7 @@ row_back x =
 first_back : (shape : Shape) (x : RowRef) → is_first shape x ≡ true
     → (ltb (space_number x.space) 7 && is_first shape
     (row_of (record { space = space_number x.space; which = x.which; index = x.index }))) ≡ true
-first_back shape x h = from_both (ltb (space_number x.space) 7)
+first_back shape x h = and_from (ltb (space_number x.space) 7)
     (is_first shape (row_of (record {
       space = space_number x.space;
       which = x.which;
@@ -91,7 +78,7 @@ first_back shape x h = from_both (ltb (space_number x.space) 7)
 second_back : (shape : Shape) (x : RowRef) → is_second shape x ≡ true
     → (ltb (space_number x.space) 7 && is_second shape
     (row_of (record { space = space_number x.space; which = x.which; index = x.index }))) ≡ true
-second_back shape x h = from_both (ltb (space_number x.space) 7)
+second_back shape x h = and_from (ltb (space_number x.space) 7)
     (is_second shape (row_of (record {
       space = space_number x.space;
       which = x.which;
@@ -118,15 +105,15 @@ again shape size last uop.Done small h l = record {
   is = refl;
 }
 again shape size last (uop.SetI r k) small h l =
-    let b = both (ltb r 8) (leb k 1023) h in
+    let b = and_parts (ltb r 8) (leb k 1023) h in
     let x = (raw_of (instruction_bytes (uop.SetI r k))).x in
     let o : operand x ≡ k = from_le_bytes-to_le_bytes_2 k (omega (arith, leb-true k 1023 b.1)) in
     record {
       opcode = SetI;
       number = refl;
       read = record {
-        formed = from_both (ltb r 8) (leb (operand x) 1023
-            && true) b.0 (from_both (leb (operand x) 1023) true (ap (λ n. leb n 1023) o
+        formed = and_from (ltb r 8) (leb (operand x) 1023
+            && true) b.0 (and_from (leb (operand x) 1023) true (ap (λ n. leb n 1023) o
             ∙ b.1) refl);
         target = refl;
         rows = refl;
@@ -139,7 +126,7 @@ again shape size last (uop.SetN r) small h l =
       opcode = SetN;
       number = refl;
       read = record {
-        formed = from_both (ltb r 8) true h refl;
+        formed = and_from (ltb r 8) true h refl;
         target = refl;
         rows = refl;
         ends = open_end last (λ t. let e = l t in absurd cc);
@@ -151,7 +138,7 @@ again shape size last (uop.SetT r) small h l =
       opcode = SetT;
       number = refl;
       read = record {
-        formed = from_both (ltb r 8) true h refl;
+        formed = and_from (ltb r 8) true h refl;
         target = refl;
         rows = refl;
         ends = open_end last (λ t. let e = l t in absurd cc);
@@ -159,13 +146,13 @@ again shape size last (uop.SetT r) small h l =
       is = refl;
     }
 again shape size last (uop.Mov r s) small h l =
-    let b = both (ltb r 8) (ltb s 8) h in
+    let b = and_parts (ltb r 8) (ltb s 8) h in
     record {
       opcode = Mov;
       number = refl;
       read = record {
-        formed = from_both (ltb r 8) ((ltb s 8 && true)
-            && true) b.0 (from_both (ltb s 8 && true) true (from_both (ltb s 8) true b.1 refl)
+        formed = and_from (ltb r 8) ((ltb s 8 && true)
+            && true) b.0 (and_from (ltb s 8 && true) true (and_from (ltb s 8) true b.1 refl)
             refl);
         target = refl;
         rows = refl;
@@ -174,13 +161,13 @@ again shape size last (uop.Mov r s) small h l =
       is = refl;
     }
 again shape size last (uop.Add r s) small h l =
-    let b = both (ltb r 8) (ltb s 8) h in
+    let b = and_parts (ltb r 8) (ltb s 8) h in
     record {
       opcode = Add;
       number = refl;
       read = record {
-        formed = from_both (ltb r 8) ((ltb s 8 && true)
-            && true) b.0 (from_both (ltb s 8 && true) true (from_both (ltb s 8) true b.1 refl)
+        formed = and_from (ltb r 8) ((ltb s 8 && true)
+            && true) b.0 (and_from (ltb s 8 && true) true (and_from (ltb s 8) true b.1 refl)
             refl);
         target = refl;
         rows = refl;
@@ -189,15 +176,15 @@ again shape size last (uop.Add r s) small h l =
       is = refl;
     }
 again shape size last (uop.AddI r k) small h l =
-    let b = both (ltb r 8) (leb k 1023) h in
+    let b = and_parts (ltb r 8) (leb k 1023) h in
     let x = (raw_of (instruction_bytes (uop.AddI r k))).x in
     let o : operand x ≡ k = from_le_bytes-to_le_bytes_2 k (omega (arith, leb-true k 1023 b.1)) in
     record {
       opcode = AddI;
       number = refl;
       read = record {
-        formed = from_both (ltb r 8) (leb (operand x) 1023
-            && true) b.0 (from_both (leb (operand x) 1023) true (ap (λ n. leb n 1023) o
+        formed = and_from (ltb r 8) (leb (operand x) 1023
+            && true) b.0 (and_from (leb (operand x) 1023) true (ap (λ n. leb n 1023) o
             ∙ b.1) refl);
         target = refl;
         rows = refl;
@@ -206,15 +193,15 @@ again shape size last (uop.AddI r k) small h l =
       is = ap (λ n. uop.AddI r n) o;
     }
 again shape size last (uop.SubI r k) small h l =
-    let b = both (ltb r 8) (leb k 1023) h in
+    let b = and_parts (ltb r 8) (leb k 1023) h in
     let x = (raw_of (instruction_bytes (uop.SubI r k))).x in
     let o : operand x ≡ k = from_le_bytes-to_le_bytes_2 k (omega (arith, leb-true k 1023 b.1)) in
     record {
       opcode = SubI;
       number = refl;
       read = record {
-        formed = from_both (ltb r 8) (leb (operand x) 1023
-            && true) b.0 (from_both (leb (operand x) 1023) true (ap (λ n. leb n 1023) o
+        formed = and_from (ltb r 8) (leb (operand x) 1023
+            && true) b.0 (and_from (leb (operand x) 1023) true (ap (λ n. leb n 1023) o
             ∙ b.1) refl);
         target = refl;
         rows = refl;
@@ -223,14 +210,14 @@ again shape size last (uop.SubI r k) small h l =
       is = ap (λ n. uop.SubI r n) o;
     }
 again shape size last (uop.Bnez r t) small h l =
-    let b = both (ltb r 8) (ltb t size) h in
+    let b = and_parts (ltb r 8) (ltb t size) h in
     let x = (raw_of (instruction_bytes (uop.Bnez r t))).x in
     let o : operand x ≡ t = from_le_bytes-to_le_bytes_2 t (omega (arith, ltb-true t size b.1)) in
     record {
       opcode = Bnez;
       number = refl;
       read = record {
-        formed = from_both (ltb r 8) true b.0 refl;
+        formed = and_from (ltb r 8) true b.0 refl;
         target = ap (λ n. ltb n size) o
             ∙ b.1;
         rows = refl;
@@ -239,14 +226,14 @@ again shape size last (uop.Bnez r t) small h l =
       is = ap (λ n. uop.Bnez r n) o;
     }
 again shape size last (uop.Aap x y) small h l =
-    let b = both (is_first shape x) (is_second shape y) h in
+    let b = and_parts (is_first shape x) (is_second shape y) h in
     record {
       opcode = Aap;
       number = refl;
       read = record {
         formed = refl;
         target = refl;
-        rows = from_both (ltb (space_number x.space) 7
+        rows = and_from (ltb (space_number x.space) 7
             && is_first shape (row_of (record {
               space = space_number x.space;
               which = x.which;

@@ -1,15 +1,12 @@
 -- Instructions and entries one after the other, as loops check them.
-use Rattle.std.proofs.Common.{◌≡◌, ℕ, suc, ◌+◌, ◌-◌, ◌*◌, ◌<◌, ◌≤◌, eqb, List, [], ◌∷◌, ◌++◌}
-use Rattle.std.proofs.Common.{length, drop, get_or, Result, Ok, Err, refl, sym, ap, ◌∙◌}
-use Rattle.std.proofs.Common.{append_assoc, append-nil, arith}
+use Rattle.uprog_bin.proofs.Common.{◌≡◌, ℕ, suc, ◌+◌, ◌-◌, ◌*◌, ◌<◌, ◌≤◌, eqb, List, [], ◌∷◌, ◌++◌}
+use Rattle.uprog_bin.proofs.Common.{length, drop, get_or, Result, Ok, Err, refl, sym, ap, ◌∙◌}
+use Rattle.uprog_bin.proofs.Common.{append_assoc, append-nil, arith, drop_all, Uop, Shape}
+use Rattle.uprog_bin.proofs.Common.{Microprogram, shape_of, ◌>>=◌}
 use Rattle.std.proofs.lemmas.Bool.Decides.{nat_tests}
 use Rattle.std.proofs.Math.Seq.{drop-cons}
-use Rattle.std.proofs.lemmas.List.{drop_all}
-use Rattle.uprog_code.specs.declared.code.Uop.{Uop}
-use Rattle.uprog_code.specs.Shape.{Shape, Microprogram, shape_of}
 use Rattle.uprog_bin.specs.declared.directory.Listed.{Listed}
 use Rattle.uprog_bin.specs.Reading.{uop_at, uops_at, codes_at, listings_of, ProgFault}
-use Rattle.file_fields.specs.Fields.{◌>>=◌}
 
 -- what was read before, and what is still read
 abbrev pub with_front : {A : Type 0} → List A → Result (List A) ProgFault

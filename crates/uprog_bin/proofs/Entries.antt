@@ -1,10 +1,7 @@
 -- What is known of the entries of a program.
-use Rattle.std.proofs.Common.{◌<◌, ◌^◌, List, [], ◌∷◌, length, All, map}
-use Rattle.std.specs.List.{AllByRecursion}
+use Rattle.uprog_bin.proofs.Common.{◌<◌, ◌^◌, List, [], ◌∷◌, length, All, map, AllByRecursion}
+use Rattle.uprog_bin.proofs.Common.{EntryCode, microprogram_of, IsEntry}
 use Rattle.std.proofs.lemmas.List.Elements.{All-from_recursion}
-use Rattle.uprog_code.specs.declared.code.EntryCode.{EntryCode}
-use Rattle.uprog_code.specs.Shape.{microprogram_of}
-use Rattle.uprog_code.specs.Programs.{IsEntry}
 
 short : (es : List EntryCode) → AllByRecursion IsEntry (map microprogram_of es)
     → AllByRecursion (λ e. length e.code.items < 2 ^ 16) es

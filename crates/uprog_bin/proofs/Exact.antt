@@ -1,21 +1,15 @@
 -- A program file is read exactly.
-use Rattle.std.proofs.Common.{◌≡◌, ◌≢◌, ℕ, zero, suc, ◌+◌, ◌*◌, ◌^◌, ◌<◌, eqb, leb, List, [], ◌∷◌}
-use Rattle.std.proofs.Common.{◌++◌, length, get_or, Ok, refl, sym, ap, None, ◌⊎◌, inl, inr, ◌∙◌}
-use Rattle.std.proofs.Common.{subst, arith, append-nil}
-use Rattle.std.specs.Prelude.{codes}
-use Rattle.std.specs.Int.{w16, to_le_bytes}
-use Rattle.std.specs.List.{flat_map, AllByRecursion, AllPairs}
-use Rattle.std.specs.Str.{bytes_eq}
-use Rattle.std.proofs.lemmas.Bool.{eqb-true, leb-true}
-use Rattle.std.proofs.lemmas.Slice.Eq.{bytes_eq-Decides}
-use Rattle.std.proofs.lemmas.List.{drop_all}
-use Rattle.std.proofs.lemmas.List.Concat.{flat_map-cons}
-use Rattle.op_text.specs.declared.tree.Kind.TheVariants.{Word}
-use Rattle.uprog_code.specs.Shape.{Microprogram}
+use Rattle.uprog_bin.proofs.Common.{◌≡◌, ◌≢◌, ℕ, zero, suc, ◌+◌, ◌*◌, ◌^◌, ◌<◌, eqb, leb, List, []}
+use Rattle.uprog_bin.proofs.Common.{◌∷◌, ◌++◌, length, get_or, Ok, refl, sym, ap, None, ◌⊎◌, inl}
+use Rattle.uprog_bin.proofs.Common.{inr, ◌∙◌, subst, arith, append-nil, codes, w16, to_le_bytes}
+use Rattle.uprog_bin.proofs.Common.{flat_map, AllByRecursion, AllPairs, bytes_eq, eqb-true}
+use Rattle.uprog_bin.proofs.Common.{leb-true, bytes_eq-Decides, drop_all, flat_map-cons, Word}
+use Rattle.uprog_bin.proofs.Common.{Microprogram, IsEntry, IsProgram, IsBytes, ◌>>=◌, rule, Holds}
+use Rattle.uprog_bin.proofs.Common.{Holds-then, bind_ok, ok_is, rule_ok, bytes_takes, wide16}
+use Rattle.uprog_bin.proofs.Common.{field_takes}
 use Rattle.uprog_bin.specs.declared.fault.ProgKind.TheVariants as kinds
 use Rattle.uprog_bin.specs.Spelling.{head_bytes, directory_bytes, code_bytes, opening_bytes}
 use Rattle.uprog_bin.specs.Spelling.{HasVersion, program_bytes}
-use Rattle.uprog_code.specs.Programs.{IsEntry, IsProgram}
 use Rattle.uprog_bin.specs.Reading.{bytes_at, field_at, uops_at, codes_at, codes_start, total_count}
 use Rattle.uprog_bin.specs.Reading.{Listing, directory_at, opening_in, is_version, program_in}
 use Rattle.uprog_bin.specs.Opened.{AreStarts}
@@ -24,9 +18,6 @@ use Rattle.uprog_bin.proofs.Found.{uops_read, legal_read}
 use Rattle.uprog_bin.proofs.Records.{listing_bytes, IsListing, HaveNames, directory_takes}
 use Rattle.uprog_bin.proofs.Taken.{codes_take}
 use Rattle.uprog_bin.proofs.Numbers.{is_one_or_two}
-use Rattle.file_fields.specs.Fields.{IsBytes, ◌>>=◌, rule}
-use Rattle.file_fields.proofs.Held.{Holds, Holds-then, bind_ok, ok_is, rule_ok, bytes_takes, wide16}
-use Rattle.file_fields.proofs.Held.{field_takes}
 
 opening_takes : (v : ℕ) (bytes : List ℕ) → IsBytes bytes → opening_in bytes ≡ Ok v
     → Holds bytes 0 (opening_bytes v) 6 × ((v ≡ 1) ⊎ (v ≡ 2))

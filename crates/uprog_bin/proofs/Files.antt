@@ -1,18 +1,15 @@
 -- A file that was read.
-use Rattle.std.proofs.Common.{◌≡◌, ℕ, zero, suc, ◌+◌, ◌*◌, ◌<◌, true, eqb, leb, eq-eqb, ◌^◌, List}
-use Rattle.std.proofs.Common.{[], ◌∷◌, ◌++◌, length, Result, Ok, refl, sym, ap, ◌∙◌, subst, arith}
-use Rattle.std.specs.Int.{w16, w32}
-use Rattle.std.proofs.lemmas.Bool.{eqb-true}
-use Rattle.uprog_code.specs.Shape.{Microprogram}
+use Rattle.uprog_bin.proofs.Common.{◌≡◌, ℕ, zero, suc, ◌+◌, ◌*◌, ◌<◌, true, eqb, leb, eq-eqb, ◌^◌}
+use Rattle.uprog_bin.proofs.Common.{List, [], ◌∷◌, ◌++◌, length, Result, Ok, refl, sym, ap, ◌∙◌}
+use Rattle.uprog_bin.proofs.Common.{subst, arith, w16, w32, eqb-true, Microprogram, between_is}
+use Rattle.uprog_bin.proofs.Common.{◌>>=◌, is_between, bind_ok, ok_is}
+use Rattle.file_fields.proofs.Held.{field_passes}
 use Rattle.uprog_bin.specs.declared.fault.ProgKind.TheVariants as kinds
 use Rattle.uprog_bin.specs.declared.directory.Listed.{Listed}
 use Rattle.uprog_bin.specs.Reading.{number_at, field_at, name_at, shape_at, Listing, listing_at}
 use Rattle.uprog_bin.specs.Reading.{directory_at, listings_of, opening_in, uops_at, codes_at}
 use Rattle.uprog_bin.specs.Reading.{codes_start, total_count, program_in, ProgFault}
 use Rattle.uprog_bin.specs.Opened.{File, file_of, accepted, programs_in, AreStarts, IsOpened}
-use Rattle.file_fields.proofs.Padded.{between_is}
-use Rattle.file_fields.specs.Fields.{◌>>=◌, is_between}
-use Rattle.file_fields.proofs.Held.{field_passes, bind_ok, ok_is}
 
 pub codes_length : (ls : List Listing) (at : ℕ) (bytes : List ℕ) (ms : List Microprogram)
     → codes_at ls at bytes ≡ Ok ms → length ms ≡ length ls

@@ -1,17 +1,17 @@
 -- An entry of a file that was read.
-use Rattle.std.proofs.Common.{◌≡◌, ℕ, zero, suc, ◌+◌, ◌-◌, ◌*◌, ◌/◌, ◌^◌, ◌<◌, ◌≤◌, Bool, true}
-use Rattle.std.proofs.Common.{false, not, ◌&&◌, eqb, ltb, leb, List, [], ◌∷◌, length, take, drop}
-use Rattle.std.proofs.Common.{Option, Some, None, Ok, refl, sym, ap, ◌∙◌, subst, arith}
-use Rattle.std.specs.Prelude.{cond, slice_get, slice_index, slice_index_or}
-use Rattle.std.specs.List.{AllByRecursion, position, position_or_len}
-use Rattle.std.specs.Str.{bytes_eq}
+use Rattle.uprog_bin.proofs.Common.{and_from, and_parts, ◌≡◌, ℕ, zero, suc, ◌+◌, ◌-◌, ◌*◌, ◌/◌, ◌^◌}
+use Rattle.uprog_bin.proofs.Common.{◌<◌, ◌≤◌, Bool, true, false, not, ◌&&◌, eqb, ltb, leb, List, []}
+use Rattle.uprog_bin.proofs.Common.{◌∷◌, length, take, drop, Some, None, Ok, refl, sym, ap, ◌∙◌}
+use Rattle.uprog_bin.proofs.Common.{subst, arith, cond, slice_get, slice_index, slice_index_or}
+use Rattle.uprog_bin.proofs.Common.{AllByRecursion, position, bytes_eq, drop-drop, take_at, Uop}
+use Rattle.uprog_bin.proofs.Common.{Shape, Microprogram, shape_of, is_legal, is_first, is_second}
+use Rattle.uprog_bin.proofs.Common.{◌>>=◌, rule, bind_ok, ok_is, rule_ok, bytes_takes}
+use Rattle.std.proofs.Common.{Option}
+use Rattle.std.specs.List.{position_or_len}
 use Rattle.std.proofs.lemmas.Option.{get_or_from_slice_get}
-use Rattle.std.proofs.lemmas.List.{drop-drop, drop-take, take-take, take_at, length-take}
-use Rattle.std.proofs.lemmas.List.{length-drop}
-use Rattle.uprog_code.specs.declared.code.Uop.{Uop}
+use Rattle.std.proofs.lemmas.List.{drop-take, take-take, length-take, length-drop}
+use Rattle.uprog_code.specs.Legal.{IsLegalCode}
 use Rattle.uprog_code.specs.declared.code.Uop.TheVariants as uop
-use Rattle.uprog_code.specs.Shape.{Shape, Microprogram, shape_of}
-use Rattle.uprog_code.specs.Legal.{is_legal, is_first, is_second, IsLegalCode}
 use Rattle.uprog_bin.specs.declared.fault.ProgKind.TheVariants as kinds
 use Rattle.uprog_bin.specs.declared.directory.Listed.{Listed}
 use Rattle.uprog_bin.specs.declared.instruction.Raw.{Raw}
@@ -27,15 +27,6 @@ use Rattle.uprog_bin.specs.Opened.{EntryBytes, File, file_of, programs_in, uop_i
 use Rattle.uprog_bin.specs.Opened.{program_of, count_before, code_place, AreStarts, IsOpened}
 use Rattle.uprog_bin.proofs.Files.{codes_length, entries_are}
 use Rattle.uprog_bin.proofs.Uops.{length-uops}
-use Rattle.file_fields.specs.Fields.{◌>>=◌, rule}
-use Rattle.file_fields.proofs.Held.{bind_ok, ok_is, rule_ok, bytes_takes}
-
-both : (a b : Bool) → (a && b) ≡ true → (a ≡ true) × (b ≡ true)
-both true b h = (refl, h)
-both false b h = absurd cc
-
-from_both : (a b : Bool) → a ≡ true → b ≡ true → (a && b) ≡ true
-from_both a b p q = rw p q
 
 -- the rules of an instruction that was read
 pub record IsRead (k : Opcode) (shape : Shape) (size : ℕ) (last : Bool) (r : Raw) : Type 0 where
@@ -193,41 +184,41 @@ legal_as : (k : Opcode) (shape : Shape) (size : ℕ) (last : Bool) (r : Raw)
     → IsRead k shape size last r → is_legal shape size (uop_as k r) ≡ true
 legal_as Done shape size last r h = refl
 legal_as SetI shape size last r h =
-    let a = both (has_register r.x) (leb (operand r.x) 1023 && ends_at_y r) h.formed in
-    let b = both (leb (operand r.x) 1023) (ends_at_y r) a.1 in
-    from_both (has_register r.x) (leb (operand r.x) 1023) a.0 b.0
-legal_as SetN shape size last r h = (both (has_register r.x) ((eqb r.x.which 0 && eqb r.x.index 0)
+    let a = and_parts (has_register r.x) (leb (operand r.x) 1023 && ends_at_y r) h.formed in
+    let b = and_parts (leb (operand r.x) 1023) (ends_at_y r) a.1 in
+    and_from (has_register r.x) (leb (operand r.x) 1023) a.0 b.0
+legal_as SetN shape size last r h = (and_parts (has_register r.x) ((eqb r.x.which 0 && eqb r.x.index 0)
     && ends_at_y r) h.formed).0
-legal_as SetT shape size last r h = (both (has_register r.x) ((eqb r.x.which 0 && eqb r.x.index 0)
+legal_as SetT shape size last r h = (and_parts (has_register r.x) ((eqb r.x.which 0 && eqb r.x.index 0)
     && ends_at_y r) h.formed).0
 legal_as Mov shape size last r h =
-    let a = both (has_register r.x) ((has_second r.x && eqb r.x.index 0) && ends_at_y r) h.formed in
-    let b = both (has_second r.x && eqb r.x.index 0) (ends_at_y r) a.1 in
-    let c = both (has_second r.x) (eqb r.x.index 0) b.0 in
-    from_both (has_register r.x) (has_second r.x) a.0 c.0
+    let a = and_parts (has_register r.x) ((has_second r.x && eqb r.x.index 0) && ends_at_y r) h.formed in
+    let b = and_parts (has_second r.x && eqb r.x.index 0) (ends_at_y r) a.1 in
+    let c = and_parts (has_second r.x) (eqb r.x.index 0) b.0 in
+    and_from (has_register r.x) (has_second r.x) a.0 c.0
 legal_as Add shape size last r h =
-    let a = both (has_register r.x) ((has_second r.x && eqb r.x.index 0) && ends_at_y r) h.formed in
-    let b = both (has_second r.x && eqb r.x.index 0) (ends_at_y r) a.1 in
-    let c = both (has_second r.x) (eqb r.x.index 0) b.0 in
-    from_both (has_register r.x) (has_second r.x) a.0 c.0
+    let a = and_parts (has_register r.x) ((has_second r.x && eqb r.x.index 0) && ends_at_y r) h.formed in
+    let b = and_parts (has_second r.x && eqb r.x.index 0) (ends_at_y r) a.1 in
+    let c = and_parts (has_second r.x) (eqb r.x.index 0) b.0 in
+    and_from (has_register r.x) (has_second r.x) a.0 c.0
 legal_as AddI shape size last r h =
-    let a = both (has_register r.x) (leb (operand r.x) 1023 && ends_at_y r) h.formed in
-    let b = both (leb (operand r.x) 1023) (ends_at_y r) a.1 in
-    from_both (has_register r.x) (leb (operand r.x) 1023) a.0 b.0
+    let a = and_parts (has_register r.x) (leb (operand r.x) 1023 && ends_at_y r) h.formed in
+    let b = and_parts (leb (operand r.x) 1023) (ends_at_y r) a.1 in
+    and_from (has_register r.x) (leb (operand r.x) 1023) a.0 b.0
 legal_as SubI shape size last r h =
-    let a = both (has_register r.x) (leb (operand r.x) 1023 && ends_at_y r) h.formed in
-    let b = both (leb (operand r.x) 1023) (ends_at_y r) a.1 in
-    from_both (has_register r.x) (leb (operand r.x) 1023) a.0 b.0
+    let a = and_parts (has_register r.x) (leb (operand r.x) 1023 && ends_at_y r) h.formed in
+    let b = and_parts (leb (operand r.x) 1023) (ends_at_y r) a.1 in
+    and_from (has_register r.x) (leb (operand r.x) 1023) a.0 b.0
 legal_as Bnez shape size last r h =
-    let a = both (has_register r.x) (ends_at_y r) h.formed in
-    from_both (has_register r.x) (ltb (operand r.x) size) a.0 h.target
+    let a = and_parts (has_register r.x) (ends_at_y r) h.formed in
+    and_from (has_register r.x) (ltb (operand r.x) size) a.0 h.target
 legal_as Aap shape size last r h =
-    let a = both (ltb r.x.space 7 && is_first shape (row_of r.x)) (ltb r.y.space 7
+    let a = and_parts (ltb r.x.space 7 && is_first shape (row_of r.x)) (ltb r.y.space 7
     && is_second shape (row_of r.y)) h.rows in
-    let b = both (ltb r.x.space 7) (is_first shape (row_of r.x)) a.0 in
-    let c = both (ltb r.y.space 7) (is_second shape (row_of r.y)) a.1 in
-    from_both (is_first shape (row_of r.x)) (is_second shape (row_of r.y)) b.1 c.1
-legal_as Ap shape size last r h = (both (ltb r.x.space 7) (is_first shape (row_of r.x)) h.rows).1
+    let b = and_parts (ltb r.x.space 7) (is_first shape (row_of r.x)) a.0 in
+    let c = and_parts (ltb r.y.space 7) (is_second shape (row_of r.y)) a.1 in
+    and_from (is_first shape (row_of r.x)) (is_second shape (row_of r.y)) b.1 c.1
+legal_as Ap shape size last r h = (and_parts (ltb r.x.space 7) (is_first shape (row_of r.x)) h.rows).1
 
 last_as : (k : Opcode) (r : Raw) → ends_code k true ≡ true → uop_as k r ≡ uop.Done
 last_as Done r h = refl

@@ -1,13 +1,10 @@
 -- An instruction is its spelling, and its spelling is read.
-use Rattle.std.proofs.Common.{◌≡◌, ℕ, zero, suc, ◌<◌, Bool, true, false, ◌&&◌, eqb, ltb, leb, List}
-use Rattle.std.proofs.Common.{[], ◌∷◌, ◌++◌, length, get_or, Some, refl, sym, ap, ◌∙◌, arith}
-use Rattle.std.specs.Prelude.{slice_get, slice_index_or}
-use Rattle.std.specs.Int.{w16, to_le_bytes}
-use Rattle.std.proofs.lemmas.Bool.{eqb-true, ltb-true}
+use Rattle.uprog_bin.proofs.Common.{and_parts, ◌≡◌, ℕ, zero, suc, ◌<◌, Bool, true, false, ◌&&◌, eqb}
+use Rattle.uprog_bin.proofs.Common.{ltb, leb, List, [], ◌∷◌, ◌++◌, length, get_or, Some, refl, sym}
+use Rattle.uprog_bin.proofs.Common.{ap, ◌∙◌, arith, slice_get, slice_index_or, w16, to_le_bytes}
+use Rattle.uprog_bin.proofs.Common.{eqb-true, ltb-true, Shape, is_first, is_second}
 use Rattle.std.proofs.lemmas.Nat.{le_bytes_2}
 use Rattle.uprog_code.specs.declared.code.RowSpace.TheVariants as space
-use Rattle.uprog_code.specs.Shape.{Shape}
-use Rattle.uprog_code.specs.Legal.{is_first, is_second}
 use Rattle.uprog_bin.specs.declared.instruction.RawRow.{RawRow}
 use Rattle.uprog_bin.specs.declared.instruction.Raw.{Raw}
 use Rattle.uprog_bin.specs.declared.opcode.Opcode.{Opcode}
@@ -17,10 +14,6 @@ use Rattle.uprog_bin.specs.declared.opcode.TheConstants.{OPCODES, SPACES}
 use Rattle.uprog_bin.specs.Spelling.{space_number, instruction_bytes, zeros}
 use Rattle.uprog_bin.specs.Reading.{raw_of, is_zero, has_register, has_second, operand, row_of}
 use Rattle.uprog_bin.specs.Reading.{ends_at_y, is_formed, has_rows, uop_as}
-
-both : (a b : Bool) → (a && b) ≡ true → (a ≡ true) × (b ≡ true)
-both true b h = (refl, h)
-both false b h = absurd cc
 
 -- the number of an instruction, and its place among them
 abbrev pub number_of : Opcode → ℕ
@@ -98,8 +91,8 @@ pub record IsZero (x : RawRow) : Type 0 where
 
 zero_is : (x : RawRow) → is_zero x ≡ true → IsZero x
 zero_is x h =
-    let a = both (eqb x.space 0) (eqb x.which 0 && eqb x.index 0) h in
-    let b = both (eqb x.which 0) (eqb x.index 0) a.1 in
+    let a = and_parts (eqb x.space 0) (eqb x.which 0 && eqb x.index 0) h in
+    let b = and_parts (eqb x.which 0) (eqb x.index 0) a.1 in
     record {
       space = eqb-true x.space 0 a.0;
       which = eqb-true x.which 0 b.0;
@@ -110,7 +103,7 @@ zero_is x h =
 ends_is : (r : Raw) → ends_at_y r ≡ true → (r.y.space ∷ r.y.which ∷ r.y.index ∷ r.spare ∷ [])
     ≡ zeros 4
 ends_is r h =
-    let a = both (is_zero r.y) (eqb r.spare 0) h in
+    let a = and_parts (is_zero r.y) (eqb r.spare 0) h in
     let y = zero_is r.y a.0 in
     let s = eqb-true r.spare 0 a.1 in
     rw (y.space, y.which, y.index, s) refl
@@ -121,60 +114,60 @@ pub instruction_text : (k : Opcode) (shape : Shape) (r : Raw) → r.x.which < 25
     → (number_of k ∷ r.x.space ∷ r.x.which ∷ r.x.index ∷ r.y.space ∷ r.y.which ∷ r.y.index ∷ r.spare
     ∷ []) ≡ instruction_bytes (uop_as k r)
 instruction_text Done shape r w i f h =
-    let a = both (is_zero r.x) (ends_at_y r) f in
+    let a = and_parts (is_zero r.x) (ends_at_y r) f in
     let x = zero_is r.x a.0 in
     ap (λ (t : List ℕ). 0 ∷ r.x.space ∷ r.x.which ∷ r.x.index ∷ t) (ends_is r a.1)
     ∙ rw (x.space, x.which, x.index) refl
 instruction_text SetI shape r w i f h =
-    let a = both (has_register r.x) (leb (operand r.x) 1023 && ends_at_y r) f in
-    let b = both (leb (operand r.x) 1023) (ends_at_y r) a.1 in
+    let a = and_parts (has_register r.x) (leb (operand r.x) 1023 && ends_at_y r) f in
+    let b = and_parts (leb (operand r.x) 1023) (ends_at_y r) a.1 in
     ap (λ (t : List ℕ). 1 ∷ r.x.space ∷ r.x.which ∷ r.x.index ∷ t) (ends_is r b.1)
     ∙ ap (λ (t : List ℕ). 1 ∷ r.x.space ∷ (t ++ zeros 4)) (sym (operand_text r.x w i))
 instruction_text SetN shape r w i f h =
-    let a = both (has_register r.x) ((eqb r.x.which 0 && eqb r.x.index 0) && ends_at_y r) f in
-    let b = both (eqb r.x.which 0 && eqb r.x.index 0) (ends_at_y r) a.1 in
-    let c = both (eqb r.x.which 0) (eqb r.x.index 0) b.0 in
+    let a = and_parts (has_register r.x) ((eqb r.x.which 0 && eqb r.x.index 0) && ends_at_y r) f in
+    let b = and_parts (eqb r.x.which 0 && eqb r.x.index 0) (ends_at_y r) a.1 in
+    let c = and_parts (eqb r.x.which 0) (eqb r.x.index 0) b.0 in
     ap (λ (t : List ℕ). 2 ∷ r.x.space ∷ r.x.which ∷ r.x.index ∷ t) (ends_is r b.1)
     ∙ rw (eqb-true r.x.which 0 c.0, eqb-true r.x.index 0 c.1) refl
 instruction_text SetT shape r w i f h =
-    let a = both (has_register r.x) ((eqb r.x.which 0 && eqb r.x.index 0) && ends_at_y r) f in
-    let b = both (eqb r.x.which 0 && eqb r.x.index 0) (ends_at_y r) a.1 in
-    let c = both (eqb r.x.which 0) (eqb r.x.index 0) b.0 in
+    let a = and_parts (has_register r.x) ((eqb r.x.which 0 && eqb r.x.index 0) && ends_at_y r) f in
+    let b = and_parts (eqb r.x.which 0 && eqb r.x.index 0) (ends_at_y r) a.1 in
+    let c = and_parts (eqb r.x.which 0) (eqb r.x.index 0) b.0 in
     ap (λ (t : List ℕ). 3 ∷ r.x.space ∷ r.x.which ∷ r.x.index ∷ t) (ends_is r b.1)
     ∙ rw (eqb-true r.x.which 0 c.0, eqb-true r.x.index 0 c.1) refl
 instruction_text Mov shape r w i f h =
-    let a = both (has_register r.x) ((has_second r.x && eqb r.x.index 0) && ends_at_y r) f in
-    let b = both (has_second r.x && eqb r.x.index 0) (ends_at_y r) a.1 in
-    let c = both (has_second r.x) (eqb r.x.index 0) b.0 in
+    let a = and_parts (has_register r.x) ((has_second r.x && eqb r.x.index 0) && ends_at_y r) f in
+    let b = and_parts (has_second r.x && eqb r.x.index 0) (ends_at_y r) a.1 in
+    let c = and_parts (has_second r.x) (eqb r.x.index 0) b.0 in
     ap (λ (t : List ℕ). 4 ∷ r.x.space ∷ r.x.which ∷ r.x.index ∷ t) (ends_is r b.1)
     ∙ rw (eqb-true r.x.index 0 c.1) refl
 instruction_text Add shape r w i f h =
-    let a = both (has_register r.x) ((has_second r.x && eqb r.x.index 0) && ends_at_y r) f in
-    let b = both (has_second r.x && eqb r.x.index 0) (ends_at_y r) a.1 in
-    let c = both (has_second r.x) (eqb r.x.index 0) b.0 in
+    let a = and_parts (has_register r.x) ((has_second r.x && eqb r.x.index 0) && ends_at_y r) f in
+    let b = and_parts (has_second r.x && eqb r.x.index 0) (ends_at_y r) a.1 in
+    let c = and_parts (has_second r.x) (eqb r.x.index 0) b.0 in
     ap (λ (t : List ℕ). 5 ∷ r.x.space ∷ r.x.which ∷ r.x.index ∷ t) (ends_is r b.1)
     ∙ rw (eqb-true r.x.index 0 c.1) refl
 instruction_text AddI shape r w i f h =
-    let a = both (has_register r.x) (leb (operand r.x) 1023 && ends_at_y r) f in
-    let b = both (leb (operand r.x) 1023) (ends_at_y r) a.1 in
+    let a = and_parts (has_register r.x) (leb (operand r.x) 1023 && ends_at_y r) f in
+    let b = and_parts (leb (operand r.x) 1023) (ends_at_y r) a.1 in
     ap (λ (t : List ℕ). 6 ∷ r.x.space ∷ r.x.which ∷ r.x.index ∷ t) (ends_is r b.1)
     ∙ ap (λ (t : List ℕ). 6 ∷ r.x.space ∷ (t ++ zeros 4)) (sym (operand_text r.x w i))
 instruction_text SubI shape r w i f h =
-    let a = both (has_register r.x) (leb (operand r.x) 1023 && ends_at_y r) f in
-    let b = both (leb (operand r.x) 1023) (ends_at_y r) a.1 in
+    let a = and_parts (has_register r.x) (leb (operand r.x) 1023 && ends_at_y r) f in
+    let b = and_parts (leb (operand r.x) 1023) (ends_at_y r) a.1 in
     ap (λ (t : List ℕ). 7 ∷ r.x.space ∷ r.x.which ∷ r.x.index ∷ t) (ends_is r b.1)
     ∙ ap (λ (t : List ℕ). 7 ∷ r.x.space ∷ (t ++ zeros 4)) (sym (operand_text r.x w i))
 instruction_text Bnez shape r w i f h =
-    let a = both (has_register r.x) (ends_at_y r) f in
+    let a = and_parts (has_register r.x) (ends_at_y r) f in
     ap (λ (t : List ℕ). 8 ∷ r.x.space ∷ r.x.which ∷ r.x.index ∷ t) (ends_is r a.1)
     ∙ ap (λ (t : List ℕ). 8 ∷ r.x.space ∷ (t ++ zeros 4)) (sym (operand_text r.x w i))
 instruction_text Aap shape r w i f h =
-    let a = both (ltb r.x.space 7 && is_first shape (row_of r.x)) (ltb r.y.space 7
+    let a = and_parts (ltb r.x.space 7 && is_first shape (row_of r.x)) (ltb r.y.space 7
     && is_second shape (row_of r.y)) h in
     let x = space_is r.x.space (ltb-true r.x.space 7
-    (both (ltb r.x.space 7) (is_first shape (row_of r.x)) a.0).0) in
+    (and_parts (ltb r.x.space 7) (is_first shape (row_of r.x)) a.0).0) in
     let y = space_is r.y.space (ltb-true r.y.space 7
-    (both (ltb r.y.space 7) (is_second shape (row_of r.y)) a.1).0) in
+    (and_parts (ltb r.y.space 7) (is_second shape (row_of r.y)) a.1).0) in
     ap (λ s. 9 ∷ r.x.space ∷ r.x.which ∷ r.x.index ∷ r.y.space ∷ r.y.which ∷ r.y.index ∷ s
     ∷ []) (eqb-true r.spare 0 f)
     ∙ ap (λ s. 9 ∷ s ∷ r.x.which ∷ r.x.index ∷ r.y.space ∷ r.y.which ∷ r.y.index ∷ 0 ∷ []) (sym x)
@@ -182,6 +175,6 @@ instruction_text Aap shape r w i f h =
     ∷ r.y.index ∷ 0 ∷ []) (sym y)
 instruction_text Ap shape r w i f h =
     let x = space_is r.x.space (ltb-true r.x.space 7
-    (both (ltb r.x.space 7) (is_first shape (row_of r.x)) h).0) in
+    (and_parts (ltb r.x.space 7) (is_first shape (row_of r.x)) h).0) in
     ap (λ (t : List ℕ). 10 ∷ r.x.space ∷ r.x.which ∷ r.x.index ∷ t) (ends_is r f)
     ∙ ap (λ s. 10 ∷ s ∷ r.x.which ∷ r.x.index ∷ zeros 4) (sym x)

@@ -1,7 +1,6 @@
 -- The byte of kinds.
-use Rattle.std.proofs.Common.{ℕ, zero, suc, ◌*◌, ◌<◌, ◌≤◌, List, [], ◌∷◌, length, arith}
-use Rattle.op_text.specs.declared.tree.Kind.{Kind}
-use Rattle.op_text.specs.declared.tree.Kind.TheVariants.{Word, Bit}
+use Rattle.uprog_bin.proofs.Common.{ℕ, zero, suc, ◌*◌, ◌<◌, ◌≤◌, List, [], ◌∷◌, length, arith, Kind}
+use Rattle.uprog_bin.proofs.Common.{Word, Bit}
 use Rattle.uprog_bin.specs.Spelling.{kind_bits}
 
 abbrev limit : ℕ → ℕ

@@ -1,10 +1,9 @@
 -- Records one after the other, as loops read them.
-use Rattle.std.proofs.Common.{◌≡◌, ℕ, suc, ◌+◌, ◌-◌, ◌/◌, ◌%◌, ◌<◌, ◌≤◌, ◌||◌, List, [], ◌∷◌, ◌++◌}
-use Rattle.std.proofs.Common.{Result, Ok, Err, refl, sym, ap, ◌∙◌, append_assoc, arith}
+use Rattle.uprog_bin.proofs.Common.{◌≡◌, ℕ, suc, ◌+◌, ◌-◌, ◌/◌, ◌%◌, ◌<◌, ◌≤◌, ◌||◌, List, [], ◌∷◌}
+use Rattle.uprog_bin.proofs.Common.{◌++◌, Result, Ok, Err, refl, sym, ap, ◌∙◌, append_assoc, arith}
+use Rattle.uprog_bin.proofs.Common.{bytes_eq, Kind}
 use Rattle.std.specs.List.{list_any}
-use Rattle.std.specs.Str.{bytes_eq}
 use Rattle.std.proofs.lemmas.List.{map-append}
-use Rattle.op_text.specs.declared.tree.Kind.{Kind}
 use Rattle.uprog_bin.specs.declared.directory.Listed.{Listed}
 use Rattle.uprog_bin.specs.Reading.{is_named, has_name, listing_of, listings_of, Listing, kinds_of}
 use Rattle.uprog_bin.specs.Reading.{kind_of_bit, listing_at, directory_at, ProgFault}

@@ -1,7 +1,6 @@
 -- The numbers of versions.
-use Rattle.std.proofs.Common.{◌≡◌, ℕ, ◌^◌, ◌<◌, Bool, true, false, ◌||◌, eqb, refl, arith, ◌⊎◌, inl}
-use Rattle.std.proofs.Common.{inr}
-use Rattle.std.proofs.lemmas.Bool.{eqb-true}
+use Rattle.uprog_bin.proofs.Common.{◌≡◌, ℕ, ◌^◌, ◌<◌, Bool, true, false, ◌||◌, eqb, refl, arith}
+use Rattle.uprog_bin.proofs.Common.{◌⊎◌, inl, inr, eqb-true}
 use Rattle.uprog_bin.specs.Reading.{is_version}
 
 one_or_two : (v : ℕ) (a b : Bool) → (a ≡ true → v ≡ 1) → (b ≡ true → v ≡ 2) → (a || b) ≡ true

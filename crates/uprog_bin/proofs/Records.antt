@@ -1,28 +1,24 @@
 -- The records of a directory are spelled so.
-use Rattle.std.proofs.Common.{◌≡◌, ◌≢◌, ℕ, zero, suc, ◌+◌, ◌*◌, ◌/◌, ◌%◌, ◌^◌, ◌<◌, ◌≤◌, Bool, true}
-use Rattle.std.proofs.Common.{false, not, ◌||◌, cond, eqb, eq-eqb, None, ltb, List, [], ◌∷◌, ◌++◌}
-use Rattle.std.proofs.Common.{length, get_or, drop, Ok, refl, sym, ap, ◌∙◌, subst, arith}
-use Rattle.std.proofs.Common.{append_assoc, append-nil}
-use Rattle.std.specs.Int.{w8, w16, w32, to_le_bytes}
-use Rattle.std.specs.List.{flat_map, AllByRecursion, AllPairs}
-use Rattle.std.specs.Str.{bytes_eq}
-use Rattle.std.proofs.lemmas.Bool.{ltb-true, false≢true}
-use Rattle.std.proofs.lemmas.Slice.Eq.{bytes_eq-Decides}
-use Rattle.std.proofs.lemmas.List.Concat.{flat_map-cons}
+use Rattle.uprog_bin.proofs.Common.{◌≡◌, ◌≢◌, ℕ, zero, suc, ◌+◌, ◌*◌, ◌/◌, ◌%◌, ◌^◌, ◌<◌, ◌≤◌, Bool}
+use Rattle.uprog_bin.proofs.Common.{true, false, not, ◌||◌, eqb, eq-eqb, None, ltb, List, [], ◌∷◌}
+use Rattle.uprog_bin.proofs.Common.{◌++◌, length, get_or, drop, Ok, refl, sym, ap, ◌∙◌, subst}
+use Rattle.uprog_bin.proofs.Common.{arith, append_assoc, append-nil, w8, w16, w32, to_le_bytes}
+use Rattle.uprog_bin.proofs.Common.{flat_map, AllByRecursion, AllPairs, bytes_eq, ltb-true}
+use Rattle.uprog_bin.proofs.Common.{bytes_eq-Decides, flat_map-cons, Kind, Shape, name_bytes}
+use Rattle.uprog_bin.proofs.Common.{IsBytes, is_between, ◌>>=◌, Holds, Holds-then, bind_ok, ok_is}
+use Rattle.uprog_bin.proofs.Common.{wide8, wide16, wide32, field_takes, between_is}
+use Rattle.std.proofs.lemmas.Bool.{or_parts, false≢true}
+use Rattle.std.proofs.Common.{cond}
 use Rattle.std.proofs.lemmas.List.Quantifiers.{all_pairs_push}
 use Rattle.text_lex.specs.Spelled.{fits_name}
-use Rattle.op_text.specs.declared.tree.Kind.{Kind}
-use Rattle.uprog_code.specs.Shape.{Shape}
+use Rattle.file_fields.proofs.NameField.{name_takes}
+use Rattle.file_fields.proofs.Held.{number_takes}
+use Rattle.file_fields.proofs.Padded.{both}
 use Rattle.uprog_bin.specs.declared.fault.ProgKind.TheVariants as kinds
 use Rattle.uprog_bin.specs.Spelling.{kind_bits, result_bit, second_bits, shape_bytes}
 use Rattle.uprog_bin.specs.Reading.{number_at, field_at, kind_of_bit, kinds_of, second_of}
 use Rattle.uprog_bin.specs.Reading.{is_results, is_kinds, shape_at, Listing, has_name, name_at}
 use Rattle.uprog_bin.specs.Reading.{listing_at, directory_at}
-use Rattle.file_fields.proofs.NameField.{name_takes}
-use Rattle.file_fields.specs.Fields.{name_bytes, IsBytes, is_between, ◌>>=◌}
-use Rattle.file_fields.proofs.Held.{Holds, Holds-then, bind_ok, ok_is, wide8, wide16, wide32}
-use Rattle.file_fields.proofs.Held.{number_takes, field_takes}
-use Rattle.file_fields.proofs.Padded.{both, between_is}
 
 one_kind : (b : ℕ) (ks : List Kind) → b < 2 → kind_bits (kind_of_bit b ∷ ks) ≡ 2 * kind_bits ks + b
 one_kind zero ks h = omega arith
@@ -257,18 +253,14 @@ listing_takes v earlier start at bytes l fits e =
 abbrev pub HaveNames : List Listing → Type 0
 HaveNames ls = AllPairs (λ k l. k.name ≢ l.name) ls
 
-or_false : (a b : Bool) → (a || b) ≡ false → (a ≡ false) × (b ≡ false)
-or_false true b h = absurd cc
-or_false false b h = (refl, h)
-
 unnamed : (ls : List Listing) (name : List ℕ) → has_name ls name ≡ false → (k : ℕ) (d : Listing)
     → k < length ls → (get_or ls k d).name ≢ name
 unnamed [] name h k d lt e = omega arith
 unnamed (x ∷ ls) name h zero d lt e = false≢true
-    (sym (or_false (bytes_eq x.name name) (has_name ls name) h).0
+    (sym (or_parts (bytes_eq x.name name) (has_name ls name) h).0
     ∙ (bytes_eq-Decides x.name name).1 e)
 unnamed (x ∷ ls) name h (suc k) d lt e = unnamed ls name
-    (or_false (bytes_eq x.name name) (has_name ls name) h).1 k d (omega arith) e
+    (or_parts (bytes_eq x.name name) (has_name ls name) h).1 k d (omega arith) e
 
 -- the records that were read, after the earlier ones
 pub record Reads (v : ℕ) (bytes : List ℕ) (n at : ℕ) (earlier all : List Listing) : Type 0 where

@@ -1,20 +1,16 @@
 -- What was read of a file is spelled so.
-use Rattle.std.proofs.Common.{◌≡◌, ℕ, zero, suc, ◌+◌, ◌*◌, ◌<◌, ◌≤◌, Bool, eqb, List, [], ◌∷◌, ◌++◌}
-use Rattle.std.proofs.Common.{length, take, drop, Ok, refl, sym, ap, ◌∙◌, subst, arith}
-use Rattle.std.specs.Prelude.{slice_get, slice_index}
-use Rattle.std.specs.List.{flat_map}
-use Rattle.std.proofs.lemmas.List.Concat.{flat_map-cons}
-use Rattle.std.proofs.lemmas.List.{take_at}
-use Rattle.uprog_code.specs.declared.code.Uop.{Uop}
-use Rattle.uprog_code.specs.Shape.{Shape, Microprogram}
+use Rattle.uprog_bin.proofs.Common.{◌≡◌, ℕ, zero, suc, ◌+◌, ◌*◌, ◌<◌, ◌≤◌, Bool, eqb, List, [], ◌∷◌}
+use Rattle.uprog_bin.proofs.Common.{◌++◌, length, take, drop, Ok, refl, sym, ap, ◌∙◌, subst, arith}
+use Rattle.uprog_bin.proofs.Common.{slice_get, slice_index, flat_map, flat_map-cons, take_at, Uop}
+use Rattle.uprog_bin.proofs.Common.{Shape, Microprogram, IsBytes, ◌>>=◌, Holds, Holds-then, bind_ok}
+use Rattle.uprog_bin.proofs.Common.{ok_is, bytes_takes}
+use Rattle.file_fields.proofs.Held.{Holds-fits}
 use Rattle.uprog_bin.specs.Spelling.{instruction_bytes, code_bytes}
 use Rattle.uprog_bin.specs.Reading.{bytes_at, raw_of, numbered, uop_at, uops_at, codes_at, Listing}
 use Rattle.uprog_bin.specs.Reading.{total_count}
 use Rattle.uprog_bin.specs.declared.opcode.TheConstants.{OPCODES}
 use Rattle.uprog_bin.proofs.Found.{IsUop, uop_at_read}
 use Rattle.uprog_bin.proofs.Instructions.{number_of, number_is, text-raw, instruction_text}
-use Rattle.file_fields.specs.Fields.{IsBytes, ◌>>=◌}
-use Rattle.file_fields.proofs.Held.{Holds, Holds-then, Holds-fits, bind_ok, ok_is, bytes_takes}
 use Rattle.uprog_bin.specs.declared.fault.ProgKind.TheVariants as kinds
 
 -- a place and its text, by two names

@@ -1,9 +1,6 @@
 -- The instructions that bytes spell, one by one.
-use Rattle.std.proofs.Common.{◌≡◌, ℕ, zero, suc, ◌+◌, ◌*◌, ◌/◌, ◌<◌, List, length, take, drop, Some}
-use Rattle.std.proofs.Common.{refl, sym, ap, ◌∙◌, arith}
-use Rattle.std.specs.Prelude.{slice_get}
-use Rattle.std.proofs.lemmas.List.{drop-drop}
-use Rattle.uprog_code.specs.Shape.{Shape}
+use Rattle.uprog_bin.proofs.Common.{◌≡◌, ℕ, zero, suc, ◌+◌, ◌*◌, ◌/◌, ◌<◌, List, length, take, drop}
+use Rattle.uprog_bin.proofs.Common.{Some, refl, sym, ap, ◌∙◌, arith, slice_get, drop-drop, Shape}
 use Rattle.uprog_bin.specs.Opened.{EntryBytes, uop_in, uops_in, code_of}
 
 pub length-uops : (n : ℕ) (bytes : List ℕ) → length (uops_in n bytes) ≡ n

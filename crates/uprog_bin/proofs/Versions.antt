@@ -1,14 +1,10 @@
 -- A file is that of one program.
-use Rattle.std.proofs.Common.{◌≡◌, ℕ, List, Ok, Result, refl, sym, ap, ◌∙◌, inl, inr, ◌<◌, length}
-use Rattle.std.proofs.Common.{arith}
-use Rattle.std.specs.Prelude.{slice_set}
-use Rattle.uprog_code.specs.Shape.{Microprogram}
-use Rattle.uprog_code.specs.Programs.{IsProgram}
+use Rattle.uprog_bin.proofs.Common.{◌≡◌, ℕ, List, Ok, Result, refl, sym, ap, ◌∙◌, inl, inr, ◌<◌}
+use Rattle.uprog_bin.proofs.Common.{length, arith, slice_set, Microprogram, IsProgram, ok_is}
 use Rattle.uprog_bin.specs.Spelling.{HasVersion, program_bytes}
 use Rattle.uprog_bin.specs.Reading.{program_in, ProgFault}
 use Rattle.uprog_bin.specs.Opened.{IsProgramFile}
 use Rattle.uprog_bin.proofs.Whole.{read}
-use Rattle.file_fields.proofs.Held.{ok_is}
 
 found : ℕ → List Microprogram → Result (ℕ × List Microprogram) ProgFault
 found v ms = Ok (v, ms)

@@ -1,39 +1,33 @@
 -- The spelling of a program is read as the program.
-use Rattle.std.proofs.Common.{◌≡◌, ◌≢◌, ℕ, zero, suc, ◌+◌, ◌-◌, ◌*◌, ◌/◌, ◌%◌, ◌^◌, ◌<◌, ◌≤◌, Bool}
-use Rattle.std.proofs.Common.{true, false, eqb, ltb, leb, List, [], ◌∷◌, ◌++◌, length, get_or, Ok}
-use Rattle.std.proofs.Common.{refl, sym, ap, ◌∙◌, subst, arith, append_assoc, append-nil, ◌⊎◌, inl}
-use Rattle.std.proofs.Common.{inr}
-use Rattle.std.specs.Prelude.{slice_get, codes, cond, not, ◌&&◌, Option, Some, None}
-use Rattle.std.specs.Int.{w8, w16, w32, to_le_bytes}
-use Rattle.std.specs.List.{flat_map, AllByRecursion, AllPairs}
-use Rattle.std.specs.Str.{bytes_eq}
-use Rattle.std.proofs.lemmas.Bool.{eq-eqb, eqb-true, lt-ltb, le-leb}
+use Rattle.uprog_bin.proofs.Common.{◌≡◌, ◌≢◌, ℕ, zero, suc, ◌+◌, ◌-◌, ◌*◌, ◌/◌, ◌%◌, ◌^◌, ◌<◌, ◌≤◌}
+use Rattle.uprog_bin.proofs.Common.{Bool, true, false, eqb, ltb, leb, List, [], ◌∷◌, ◌++◌, length}
+use Rattle.uprog_bin.proofs.Common.{get_or, Ok, refl, sym, ap, ◌∙◌, subst, arith, append_assoc}
+use Rattle.uprog_bin.proofs.Common.{append-nil, ◌⊎◌, inl, inr, slice_get, codes, cond, w8, w16, w32}
+use Rattle.uprog_bin.proofs.Common.{to_le_bytes, flat_map, AllByRecursion, AllPairs, bytes_eq}
+use Rattle.uprog_bin.proofs.Common.{eqb-true, bytes_eq-Decides, length-append, drop_all}
+use Rattle.uprog_bin.proofs.Common.{flat_map-cons, Kind, Word, Bit, Shape, Microprogram, IsEntry}
+use Rattle.uprog_bin.proofs.Common.{IsProgram, name_bytes, is_between, Holds, Holds-front}
+use Rattle.uprog_bin.proofs.Common.{Holds-back, bytes_again, wide8, wide16, wide32}
+use Rattle.std.specs.Prelude.{not, ◌&&◌, Option, Some, None}
+use Rattle.std.proofs.lemmas.Bool.{eq-eqb, lt-ltb, le-leb}
 use Rattle.std.proofs.lemmas.Option.{slice_get_within}
-use Rattle.std.proofs.lemmas.Slice.Eq.{bytes_eq-Decides}
-use Rattle.std.proofs.lemmas.List.{length-append, drop_all, get_or_append_left}
-use Rattle.std.proofs.lemmas.List.Concat.{flat_map-cons}
+use Rattle.std.proofs.lemmas.List.{get_or_append_left}
 use Rattle.std.proofs.Math.Seq.{get_or-append_seam}
-use Rattle.op_text.specs.declared.tree.Kind.{Kind}
-use Rattle.op_text.specs.declared.tree.Kind.TheVariants.{Word, Bit}
 use Rattle.uprog_code.specs.declared.code.Uop.TheVariants.{Done}
-use Rattle.uprog_code.specs.Shape.{Shape, Microprogram}
+use Rattle.file_fields.proofs.NameField.{name_again}
+use Rattle.file_fields.proofs.Held.{number_again, field_again}
+use Rattle.file_fields.proofs.Padded.{is-between, name_size}
 use Rattle.uprog_bin.specs.declared.fault.ProgKind.TheVariants as kinds
 use Rattle.uprog_bin.specs.Spelling.{kind_bits, result_bit, second_bits, kinds_byte, shape_bytes}
 use Rattle.uprog_bin.specs.Spelling.{HasVersion, head_bytes, directory_bytes, code_bytes}
 use Rattle.uprog_bin.specs.Spelling.{opening_bytes, program_bytes}
-use Rattle.uprog_code.specs.Programs.{IsEntry, IsProgram}
 use Rattle.uprog_bin.specs.Reading.{kind_of_bit, kinds_of, is_kinds, shape_at, Listing, has_name}
 use Rattle.uprog_bin.specs.Reading.{listing_at, directory_at, codes_at, codes_start, total_count}
 use Rattle.uprog_bin.specs.Reading.{is_version, opening_in, program_in, second_of}
-use Rattle.file_fields.proofs.NameField.{name_again}
 use Rattle.uprog_bin.proofs.Records.{IsShape}
 use Rattle.uprog_bin.proofs.Numbers.{version_small}
 use Rattle.uprog_bin.proofs.KindBits.{kind_bits_small}
 use Rattle.uprog_bin.proofs.Again.{uops_again, length-code}
-use Rattle.file_fields.specs.Fields.{name_bytes, is_between}
-use Rattle.file_fields.proofs.Held.{Holds, Holds-front, Holds-back, bytes_again, wide8, wide16}
-use Rattle.file_fields.proofs.Held.{wide32, number_again, field_again}
-use Rattle.file_fields.proofs.Padded.{is-between, name_size}
 
 -- ---- kinds
 

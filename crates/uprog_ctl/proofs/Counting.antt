@@ -1,13 +1,9 @@
 -- A trace's events raise the counters by its counts.
-use Rattle.std.specs.Prelude.{◌≡◌, ℕ, ◌+◌, Bool, cond, List, [], ◌∷◌, count_by}
-use Rattle.std.proofs.Common.{◌∙◌, ap, arith}
-use Rattle.std.proofs.lemmas.List.Sums.{sum_by-cons}
-use Rattle.dram_model.specs.declared.dram.Counters.{Counters}
-use Rattle.dram_model.specs.Chip.{all_counted}
+use Rattle.uprog_ctl.proofs.Common.{count_by, ◌∙◌, ap, arith, sum_by-cons, Counters, all_counted}
+use Rattle.uprog_ctl.proofs.Common.{Shape, Issue, IssueAap, IssueAp, issues_aap, issues_ap}
+use Rattle.std.specs.Prelude.{◌≡◌, ℕ, ◌+◌, Bool, cond, List, [], ◌∷◌}
 use Rattle.uprog_code.specs.declared.binding.Binding.{Binding}
-use Rattle.uprog_code.specs.Shape.{Shape}
-use Rattle.uprog_code.specs.Machine.{Issue, IssueAap, IssueAp}
-use Rattle.uprog_code.specs.Count.{issues_aap, issues_ap, counts_of}
+use Rattle.uprog_code.specs.Count.{counts_of}
 use Rattle.uprog_ctl.specs.Events.{issue_events, risen}
 
 more_of : (p : Issue → Bool) (i : Issue) (is : List Issue)

@@ -1,20 +1,17 @@
 -- The cursors of the live banks, as commands are done.
-use Rattle.std.proofs.Common.{◌≡◌, ℕ, zero, suc, ◌+◌, ◌<◌, true, false, cond, eqb}
-use Rattle.std.proofs.Common.{not, List}
-use Rattle.std.proofs.Common.{[], ◌∷◌, ◌++◌, length, map, drop, get_or, set, refl, sym, ap, ◌∙◌}
-use Rattle.std.proofs.Common.{subst}
-use Rattle.std.proofs.Common.{arith, inl, inr, append-nil}
+use Rattle.uprog_ctl.proofs.Common.{◌≡◌, ℕ, zero, suc, ◌+◌, ◌<◌, true, false, cond, List, [], ◌∷◌}
+use Rattle.uprog_ctl.proofs.Common.{◌++◌, length, map, drop, get_or, refl, sym, ap, ◌∙◌, subst}
+use Rattle.uprog_ctl.proofs.Common.{arith, inl, inr, append-nil, get_or-map, length-map, take_at}
+use Rattle.uprog_ctl.proofs.Common.{length_push, get_or_default, Command, Queues, live}
+use Rattle.uprog_ctl.proofs.Common.{without_next}
+use Rattle.std.proofs.Common.{eqb, not, set}
 use Rattle.std.specs.Prelude.{remove}
 use Rattle.std.specs.List.{refill}
 use Rattle.std.proofs.lemmas.Bool.{cases_eq, cases_lt}
-use Rattle.std.proofs.lemmas.List.{map_push, map-set, set-get_or, get_or-map, get_or_push}
-use Rattle.std.proofs.lemmas.List.{length-map}
-use Rattle.std.proofs.lemmas.List.{get_or_append_left, get_or-set_same, get_or-set_other}
-use Rattle.std.proofs.lemmas.List.{length-set, take_at}
-use Rattle.std.proofs.lemmas.List.{length_push, get_or_default}
+use Rattle.std.proofs.lemmas.List.{map_push, map-set, set-get_or, get_or_push, get_or_append_left}
+use Rattle.std.proofs.lemmas.List.{get_or-set_same, get_or-set_other, length-set}
 use Rattle.std.proofs.lemmas.List.Edits.{length-remove, get_or-remove_below, get_or-remove_above}
-use Rattle.dram_model.specs.declared.address.Command.{Command}
-use Rattle.wave_model.specs.Schedule.{Queues, is_live, live, without_next}
+use Rattle.wave_model.specs.Schedule.{is_live}
 use Rattle.wave_model.proofs.Live.{live_kept, live_gone, live_apart, other_left, own_left, alive}
 use Rattle.wave_model.proofs.Turning.{live_more}
 use Rattle.uprog_ctl.specs.declared.cursor.Cursor.{Cursor}

@@ -1,11 +1,7 @@
 -- One command more on a bank.
-use Rattle.std.proofs.Common.{ℕ, ◌+◌, ◌≤◌, [], ◌∷◌, sym, ap, ◌∙◌, subst}
-use Rattle.dram_model.specs.declared.dram.Counters.{Counters}
-use Rattle.dram_model.specs.declared.address.Command.{Command}
-use Rattle.dram_model.specs.Chip.{Banks, SameBut}
-use Rattle.dram_model.specs.Chip.Event.{Row}
-use Rattle.dram_model.specs.View.{ChipView, Did}
-use Rattle.dram_model.proofs.EventLaws.{counted-bound, on-others}
+use Rattle.uprog_ctl.proofs.Common.{ℕ, ◌+◌, ◌≤◌, [], ◌∷◌, sym, ap, ◌∙◌, subst, Counters, Command}
+use Rattle.uprog_ctl.proofs.Common.{Banks, SameBut, Row, ChipView, Did, counted-bound}
+use Rattle.dram_model.proofs.EventLaws.{on-others}
 
 -- the other banks stay
 pub others_stay : (bank : ℕ) (command : Command) (old new : ChipView)

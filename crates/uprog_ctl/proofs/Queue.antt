@@ -1,23 +1,17 @@
 -- The queue of a bank, job by job.
-use Rattle.std.proofs.Common.{◌≡◌, ℕ, ◌+◌, ◌<◌, ◌≤◌, List, []}
-use Rattle.std.proofs.Common.{◌∷◌}
-use Rattle.std.proofs.Common.{◌++◌, length, map, drop, get_or, refl, sym, ap, ◌∙◌, subst, arith}
-use Rattle.std.specs.Prelude.{All, MatchOption, Option, None, Some, nat_lt, if◌then◌else◌}
+use Rattle.uprog_ctl.proofs.Common.{◌≡◌, ℕ, ◌+◌, ◌<◌, ◌≤◌, List, [], ◌∷◌, ◌++◌, length, map, drop}
+use Rattle.uprog_ctl.proofs.Common.{get_or, refl, sym, ap, ◌∙◌, subst, arith, All, nat_lt}
+use Rattle.uprog_ctl.proofs.Common.{if◌then◌else◌, get_or-map, length-map, Command, Geometry, Uop}
+use Rattle.uprog_ctl.proofs.Common.{Shape, shape_of, Trace, issues_of, bound, bound_of}
+use Rattle.uprog_ctl.proofs.Common.{commands_from, trace_is, start_stands, Walk}
+use Rattle.std.specs.Prelude.{MatchOption, Option, None, Some}
 use Rattle.std.proofs.lemmas.Bool.{lt-ltb, le-ltb}
-use Rattle.std.proofs.lemmas.List.{drop_more, get_or-map, length-map}
+use Rattle.std.proofs.lemmas.List.{drop_more}
 use Rattle.std.proofs.lemmas.List.Elements.{All-get_or, All-head, All-drop}
-use Rattle.dram_model.specs.declared.address.Command.{Command}
-use Rattle.dram_model.specs.declared.geometry.Geometry.{Geometry}
-use Rattle.uprog_code.specs.declared.code.Uop.{Uop}
-use Rattle.uprog_code.specs.Shape.{Shape, shape_of}
-use Rattle.uprog_code.specs.Machine.{Trace, issues_of}
-use Rattle.uprog_code.specs.Bound.{bound, bound_of}
-use Rattle.uprog_code.specs.Commands.{commands_from, Finds as FindsInCode}
-use Rattle.uprog_code.proofs.Steps.{trace_is}
-use Rattle.uprog_code.proofs.Seek.{first_walk, start_stands}
+use Rattle.uprog_code.specs.Commands.{Finds as FindsInCode}
+use Rattle.uprog_code.proofs.Seek.{first_walk}
 use Rattle.uprog_ctl.specs.declared.waves.Job.{Job}
 use Rattle.uprog_ctl.specs.declared.cursor.JobHead.{JobHead}
-use Rattle.uprog_code.specs.declared.commands.Walk.{Walk}
 use Rattle.uprog_ctl.specs.declared.cursor.Cursor.{Cursor}
 use Rattle.uprog_ctl.specs.Waves.{BoundJob, bound_job, bound_jobs, CanRun, job_queues}
 use Rattle.uprog_ctl.specs.Cursors.{bank_commands, Finds, left_from}

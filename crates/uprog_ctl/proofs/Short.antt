@@ -1,26 +1,18 @@
 -- A wave has no more commands than its jobs' walks may take.
-use Rattle.std.proofs.Common.{ℕ, zero, suc, ◌+◌, ◌*◌, ◌-◌, ◌≤◌, Bool, true, false, List}
-use Rattle.std.proofs.Common.{[]}
-use Rattle.std.proofs.Common.{◌∷◌, length, Option, Some, None, subst}
-use Rattle.std.proofs.Common.{arith}
-use Rattle.std.specs.Prelude.{◌==◌, nat_lt, nat_le, if◌then◌else◌, slice_get, slice_index}
-use Rattle.std.specs.Prelude.{slice_set}
-use Rattle.std.specs.List.{range_with_len, sum_by}
-use Rattle.std.proofs.lemmas.List.{length-append, length-map}
-use Rattle.std.proofs.lemmas.List.Sums.{sum_by-cons}
-use Rattle.uprog_code.specs.declared.TheConstants.{WALK_MAX}
-use Rattle.uprog_code.specs.declared.code.Uop.{Uop}
+use Rattle.uprog_ctl.proofs.Common.{ℕ, zero, suc, ◌+◌, ◌*◌, ◌≤◌, Bool, true, false, List, [], ◌∷◌}
+use Rattle.uprog_ctl.proofs.Common.{length, Some, subst, arith, nat_lt, if◌then◌else◌, slice_get}
+use Rattle.uprog_ctl.proofs.Common.{sum_by, length-map, sum_by-cons, WALK_MAX, Uop, Shape, Issue}
+use Rattle.uprog_ctl.proofs.Common.{IssueAap, IssueAp, Trace, issues_of, bound_command, bound_of}
+use Rattle.uprog_ctl.proofs.Common.{trace_is, Queues, total_left}
+use Rattle.std.proofs.Common.{◌-◌, Option, None}
+use Rattle.std.specs.Prelude.{◌==◌, nat_le, slice_index, slice_set}
+use Rattle.std.specs.List.{range_with_len}
+use Rattle.std.proofs.lemmas.List.{length-append}
 use Rattle.uprog_code.specs.declared.code.Uop.TheVariants.{Done, SetI, SetN, SetT, Mov, Add, AddI}
 use Rattle.uprog_code.specs.declared.code.Uop.TheVariants.{SubI, Bnez, Aap, Ap}
 use Rattle.uprog_code.specs.declared.walker.Why3.TheVariants.{Index, Register}
-use Rattle.uprog_code.specs.Shape.{Shape}
-use Rattle.uprog_code.specs.Machine.{Issue, IssueAap, IssueAp, Trace, Ended, Stuck, onto, Next, act}
-use Rattle.uprog_code.specs.Machine.{act_at}
-use Rattle.uprog_code.specs.Machine.{issue, issued, issues_of, start, command_at}
-use Rattle.uprog_code.specs.Machine.{all_in_range}
-use Rattle.uprog_code.specs.Bound.{bound_command, bound_of}
-use Rattle.uprog_code.proofs.Steps.{trace_is}
-use Rattle.wave_model.specs.Schedule.{Queues, total_left}
+use Rattle.uprog_code.specs.Machine.{Ended, Stuck, onto, Next, act, act_at, issue, issued, start}
+use Rattle.uprog_code.specs.Machine.{command_at, all_in_range}
 use Rattle.uprog_ctl.specs.Waves.{BoundJob, issues_in, commands_of, job_queues}
 
 -- the trace has at most so many commands

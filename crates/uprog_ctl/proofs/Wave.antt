@@ -1,23 +1,16 @@
 -- A wave on its way.
-use Rattle.std.proofs.Common.{◌≡◌, ℕ, suc, ◌+◌, ◌<◌, ◌≤◌, List, [], ◌∷◌, ◌++◌}
-use Rattle.std.proofs.Common.{length}
-use Rattle.std.proofs.Common.{map, take, get_or, refl, sym, ap, ◌∙◌, subst, arith}
+use Rattle.uprog_ctl.proofs.Common.{◌≡◌, ℕ, suc, ◌+◌, ◌<◌, ◌≤◌, List, [], ◌∷◌, ◌++◌, length, map}
+use Rattle.uprog_ctl.proofs.Common.{take, get_or, refl, sym, ap, ◌∙◌, subst, arith, append-nil}
+use Rattle.uprog_ctl.proofs.Common.{Some, inl, inr, slice_get, sum_by, take_at, length-map, Command}
+use Rattle.uprog_ctl.proofs.Common.{Counters, Banks, Row, row_events, ChipView, Did, FailedIn}
+use Rattle.uprog_ctl.proofs.Common.{Did-none, Did-more, counted-bound, Queues, live, Picker}
+use Rattle.uprog_ctl.proofs.Common.{PicksLive, total_left, without_next, whole_picks, picks_whole}
 use Rattle.std.proofs.Common.{append_assoc}
-use Rattle.std.proofs.Common.{append-nil, Some, inl, inr}
-use Rattle.std.specs.Prelude.{slice_get}
-use Rattle.std.specs.List.{sum_by}
-use Rattle.std.proofs.lemmas.List.{take_at, length-map, nil_from_length}
+use Rattle.std.proofs.lemmas.List.{nil_from_length}
 use Rattle.std.proofs.lemmas.List.Sums.{sum_by-set, sum_by-remove}
-use Rattle.dram_model.specs.declared.address.Command.{Command}
-use Rattle.dram_model.specs.declared.dram.Counters.{Counters}
-use Rattle.dram_model.specs.Chip.{Banks, Event, after, Grew}
-use Rattle.dram_model.specs.Chip.Event.{Row}
-use Rattle.dram_model.specs.Events.{row_events}
-use Rattle.dram_model.specs.View.{ChipView, Did, FailedIn}
-use Rattle.dram_model.proofs.EventLaws.{Did-none, Did-more, Grew-more, counted-bound}
-use Rattle.wave_model.specs.Schedule.{Queues, live, Picker, PicksLive, total_left, without_next}
-use Rattle.wave_model.specs.Schedule.{last_state, whole_picks}
-use Rattle.wave_model.proofs.Waves.{picks_whole}
+use Rattle.dram_model.specs.Chip.{Event, after, Grew}
+use Rattle.dram_model.proofs.EventLaws.{Grew-more}
+use Rattle.wave_model.specs.Schedule.{last_state}
 use Rattle.wave_model.proofs.Turning.{OnePick, one_pick, no_pick}
 use Rattle.wave_model.proofs.Prefixes.{wave_stops}
 use Rattle.uprog_ctl.specs.declared.cursor.Cursor.{Cursor}

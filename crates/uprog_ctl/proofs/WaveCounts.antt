@@ -1,19 +1,13 @@
 -- A wave raises the counters by the counts of its jobs.
-use Rattle.std.proofs.Common.{◌≡◌, ℕ, ◌+◌, ◌*◌, ◌≤◌, Bool, cond, List, [], ◌∷◌, map, refl, sym, ap}
-use Rattle.std.proofs.Common.{◌∙◌}
-use Rattle.std.specs.Prelude.{All, count_by, sum_by}
-use Rattle.std.proofs.lemmas.List.Sums.{sum_by-cons}
+use Rattle.uprog_ctl.proofs.Common.{◌≡◌, ℕ, ◌+◌, ◌*◌, ◌≤◌, Bool, cond, List, [], ◌∷◌, map, refl}
+use Rattle.uprog_ctl.proofs.Common.{sym, ap, ◌∙◌, All, count_by, sum_by-cons, Command, Counters}
+use Rattle.uprog_ctl.proofs.Common.{Geometry, all_counted, Issue, IssueAap, IssueAp, issues_aap}
+use Rattle.uprog_ctl.proofs.Common.{issues_ap, bound_command, bound_of, Picker, PicksLive}
+use Rattle.uprog_ctl.proofs.Common.{total_left, whole_picks, picks_whole}
+use Rattle.std.specs.Prelude.{sum_by}
 use Rattle.std.proofs.lemmas.List.Elements.{All-map, All-weaker}
-use Rattle.dram_model.specs.declared.address.Command.{Command}
-use Rattle.dram_model.specs.declared.dram.Counters.{Counters}
-use Rattle.dram_model.specs.declared.geometry.Geometry.{Geometry}
-use Rattle.dram_model.specs.Chip.{all_counted}
-use Rattle.uprog_code.specs.Machine.{Issue, IssueAap, IssueAp}
-use Rattle.uprog_code.specs.Count.{issues_aap, issues_ap}
-use Rattle.uprog_code.specs.Bound.{bound_command, bound_of}
-use Rattle.wave_model.specs.Schedule.{WaveJob, Picker, PicksLive, total_left, whole_picks}
+use Rattle.wave_model.specs.Schedule.{WaveJob}
 use Rattle.wave_model.specs.Laws.{is_aap, is_ap, with_commands}
-use Rattle.wave_model.proofs.Waves.{picks_whole}
 use Rattle.wave_model.proofs.Sums as sums
 use Rattle.uprog_ctl.specs.Events.{risen}
 use Rattle.uprog_ctl.specs.Waves.{BoundJob, CanRun, issues_in, commands_of, wave_job, job_queues}

@@ -1,3 +1,4 @@
+pub mod Common
 -- That the code of loop programs does them, and that the loop programs of an operation mean it.
 pub mod Running
 pub mod Bodies

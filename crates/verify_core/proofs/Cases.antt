@@ -1,17 +1,9 @@
 -- What two runs and their difference say of an entry
-use Rattle.std.specs.Prelude.{◌≡◌, ◌≢◌, ℕ, ◌*◌, ◌<◌, ◌≤◌, Bool, List, length}
-use Rattle.std.proofs.Common.{ap, arith, subst, sym, ◌∙◌}
-use Rattle.op_text.specs.declared.tree.Kind.{Kind}
-use Rattle.uprog_code.specs.Shape.{Shape}
-use Rattle.uprog_code.specs.Machine.{Issue}
-use Rattle.uprog_code.specs.Implements.{Gives}
-use Rattle.uprog_code.specs.Issued.{AreGood}
-use Rattle.bdd.specs.declared.Edge.{Edge}
-use Rattle.bdd.specs.declared.Node.{Node}
-use Rattle.bdd.specs.Graphs.{Keeps}
-use Rattle.bdd.proofs.Laws.{keeps-both, value-kept}
-use Rattle.symbolic_column.specs.Symbols.{Cells}
-use Rattle.binding_laws.specs.Canonical.{canonical_rows, result_rows}
+use Rattle.verify_core.proofs.Common.{◌≢◌, ℕ, ◌*◌, ◌<◌, ◌≤◌, Bool, List, length, ap, arith, subst}
+use Rattle.verify_core.proofs.Common.{sym, ◌∙◌, Kind, Shape, Issue, Gives, AreGood, Edge, Node}
+use Rattle.verify_core.proofs.Common.{Keeps, keeps-both, value-kept, Cells, canonical_rows}
+use Rattle.verify_core.proofs.Common.{result_rows}
+use Rattle.std.specs.Prelude.{◌≡◌}
 use Rattle.verify_core.specs.declared.case.Case.{Case}
 use Rattle.verify_core.specs.declared.start.Begin.{Begin}
 use Rattle.verify_core.specs.declared.start.Begin.TheVariants.{Variables}

@@ -1,9 +1,8 @@
 -- Lists of kinds that are compared one by one
-use Rattle.std.specs.Prelude.{◌≡◌, Bool, true, false, List, [], ◌∷◌, refl}
+use Rattle.verify_core.proofs.Common.{Bool, true, false, List, [], ◌∷◌, refl, false≢true, Kind}
+use Rattle.verify_core.proofs.Common.{Word, Bit}
+use Rattle.std.specs.Prelude.{◌≡◌}
 use Rattle.std.specs.Cmp.Lexicographic.{pointwise}
-use Rattle.std.proofs.lemmas.Bool.{false≢true}
-use Rattle.op_text.specs.declared.tree.Kind.{Kind}
-use Rattle.op_text.specs.declared.tree.Kind.TheVariants.{Word, Bit}
 use Rattle.op_text.specs.contracts.tree.KindPartialEq.TheImpl.{eq-value}
 
 one-kind : (x y : Kind) → eq-value.it x y ≡ true → x ≡ y

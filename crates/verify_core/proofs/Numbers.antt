@@ -1,18 +1,11 @@
 -- Numbers that are equal have equal bits
-use Rattle.std.specs.Prelude.{◌≡◌, ℕ, zero, suc, ◌+◌, ◌*◌, ◌<◌, Bool, true, false, List, [], ◌∷◌}
-use Rattle.std.specs.Prelude.{map, slice_get, slice_index, refl, drop}
-use Rattle.std.specs.List.{range_with_len}
-use Rattle.std.proofs.Common.{ap, arith}
-use Rattle.bit_rows.specs.Bits.{bit_number, value}
-use Rattle.dram_model.specs.declared.address.Cell.TheVariants.{D}
-use Rattle.dram_model.specs.Column.{Column}
-use Rattle.dram_model.specs.Elements.{number}
-use Rattle.op_text.specs.declared.tree.Kind.{Kind}
-use Rattle.uprog_code.specs.Shape.{width}
-use Rattle.uprog_code.specs.Machine.{in_kind}
+use Rattle.verify_core.proofs.Common.{ℕ, zero, suc, ◌*◌, ◌<◌, Bool, true, false, List, [], ◌∷◌, map}
+use Rattle.verify_core.proofs.Common.{slice_get, slice_index, refl, range_with_len, ap, arith}
+use Rattle.verify_core.proofs.Common.{bit_number, D, Column, number, Kind, width, in_kind, numbers}
+use Rattle.verify_core.proofs.Common.{kind_width}
+use Rattle.std.specs.Prelude.{◌≡◌, ◌+◌, drop}
+use Rattle.bit_rows.specs.Bits.{value}
 use Rattle.uprog_code.specs.Fits.{AreBelow}
-use Rattle.uprog_code.specs.Implements.{numbers}
-use Rattle.binding_laws.proofs.Places.{kind_width}
 
 -- a lowest bit and the rest
 lowest : (x y : Bool) (p q : ℕ) → bit_number x + 2 * p ≡ bit_number y + 2 * q → (x ≡ y) × (p ≡ q)

@@ -1,17 +1,13 @@
 -- The cells that are 1 in a column of variables
-use Rattle.std.specs.Prelude.{◌≡◌, ℕ, zero, suc, ◌+◌, ◌-◌, ◌*◌, ◌<◌, Bool, List, [], ◌∷◌}
-use Rattle.std.specs.Prelude.{◌++◌, filter, map, length, refl}
-use Rattle.std.specs.List.{range_with_len}
-use Rattle.std.proofs.Common.{sym, ◌∙◌, ap, arith, append_assoc}
+use Rattle.verify_core.proofs.Common.{ℕ, zero, suc, ◌-◌, ◌*◌, ◌<◌, Bool, List, [], ◌∷◌, ◌++◌}
+use Rattle.verify_core.proofs.Common.{filter, map, length, refl, range_with_len, sym, ◌∙◌, ap}
+use Rattle.verify_core.proofs.Common.{arith, Cell, T, Dcc, D, Column, Shape, Node, Cells, column_of}
+use Rattle.verify_core.proofs.Common.{canonical_rows, result_rows, value_rows}
+use Rattle.std.specs.Prelude.{◌≡◌, ◌+◌}
+use Rattle.std.proofs.Common.{append_assoc}
 use Rattle.std.proofs.lemmas.List.Elements.{filter-append}
 use Rattle.std.proofs.lemmas.List.FromFn.{map-range_with_len_more}
-use Rattle.dram_model.specs.declared.address.Cell.{Cell}
-use Rattle.dram_model.specs.declared.address.Cell.TheVariants.{T, Dcc, D}
-use Rattle.dram_model.specs.Column.{Column}
-use Rattle.uprog_code.specs.Shape.{Shape, need}
-use Rattle.bdd.specs.declared.Node.{Node}
-use Rattle.symbolic_column.specs.Symbols.{Cells, column_of}
-use Rattle.binding_laws.specs.Canonical.{canonical_rows, result_rows, value_rows}
+use Rattle.uprog_code.specs.Shape.{need}
 use Rattle.verify_core.specs.declared.start.Begin.{Begin}
 use Rattle.verify_core.specs.Starts.{IsMeant, IsStart}
 use Rattle.verify_core.specs.Verdicts.{work_cells}

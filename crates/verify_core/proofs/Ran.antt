@@ -1,15 +1,9 @@
 -- A run by a binding that is the canonical one
-use Rattle.std.specs.Prelude.{◌≡◌, ℕ, ◌<◌, ◌^◌, Bool, List, length, refl}
-use Rattle.std.proofs.Common.{◌∙◌, ap, subst, arith}
-use Rattle.dram_model.specs.Column.{run}
-use Rattle.uprog_code.specs.Shape.{Shape}
-use Rattle.uprog_code.specs.Machine.{Issue}
-use Rattle.uprog_code.specs.Bound.{Bound, bound}
-use Rattle.uprog_code.specs.Fits.{Fits}
-use Rattle.bdd.specs.declared.Node.{Node}
-use Rattle.symbolic_column.specs.Symbols.{AreCells, Cells, column_of}
-use Rattle.binding_laws.specs.Canonical.{canonical, canonical_rows, result_rows}
-use Rattle.binding_laws.proofs.Settled.{canonical-fits}
+use Rattle.verify_core.proofs.Common.{ℕ, ◌<◌, ◌^◌, Bool, List, length, refl, ◌∙◌, ap, subst, arith}
+use Rattle.verify_core.proofs.Common.{run, Shape, Issue, Bound, bound, Fits, Node, AreCells, Cells}
+use Rattle.verify_core.proofs.Common.{column_of, canonical, canonical_rows, result_rows}
+use Rattle.verify_core.proofs.Common.{canonical-fits}
+use Rattle.std.specs.Prelude.{◌≡◌}
 use Rattle.verify_core.specs.declared.start.Begin.{Begin}
 use Rattle.verify_core.specs.Starts.{IsStart}
 use Rattle.verify_core.specs.SymbolicRuns.{IsRun}

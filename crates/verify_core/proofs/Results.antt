@@ -1,23 +1,13 @@
 -- Rows of results, kind by kind
-use Rattle.std.specs.Prelude.{◌≡◌, ℕ, zero, suc, ◌+◌, ◌*◌, ◌<◌, ◌≤◌, Bool, true, List, ◌∷◌, length}
-use Rattle.std.specs.Prelude.{slice_get, IfSome, IfNone}
+use Rattle.verify_core.proofs.Common.{ℕ, zero, suc, ◌*◌, ◌<◌, ◌≤◌, Bool, true, List, ◌∷◌, length}
+use Rattle.verify_core.proofs.Common.{slice_get, sym, ◌∙◌, ap, arith, Some, lt-ltb, flip_if, D}
+use Rattle.verify_core.proofs.Common.{Column, Kind, Word, Bit, Shape, width, in_kind, Edge, Node}
+use Rattle.verify_core.proofs.Common.{Keeps, AreCells, Cells, column_of, column-kept, result_rows}
+use Rattle.verify_core.proofs.Common.{kind_width}
+use Rattle.std.specs.Prelude.{◌≡◌, ◌+◌, IfSome, IfNone}
 use Rattle.std.specs.Option.{option_to_list}
-use Rattle.std.proofs.Common.{sym, ◌∙◌, ap, arith, Option, Some, None}
-use Rattle.std.proofs.lemmas.Bool.{lt-ltb, eq-eqb}
-use Rattle.bit_rows.specs.Bits.{flip_if}
-use Rattle.dram_model.specs.declared.address.Cell.TheVariants.{D}
-use Rattle.dram_model.specs.Column.{Column}
-use Rattle.op_text.specs.declared.tree.Kind.{Kind}
-use Rattle.op_text.specs.declared.tree.Kind.TheVariants.{Word, Bit}
-use Rattle.uprog_code.specs.Shape.{Shape, width}
-use Rattle.uprog_code.specs.Machine.{in_kind}
-use Rattle.bdd.specs.declared.Edge.{Edge}
-use Rattle.bdd.specs.declared.Node.{Node}
-use Rattle.bdd.specs.Graphs.{Keeps}
-use Rattle.symbolic_column.specs.Symbols.{AreCells, Cells, column_of}
-use Rattle.symbolic_column.proofs.Lines.{column-kept}
-use Rattle.binding_laws.specs.Canonical.{result_rows}
-use Rattle.binding_laws.proofs.Places.{kind_width}
+use Rattle.std.proofs.Common.{Option, None}
+use Rattle.std.proofs.lemmas.Bool.{eq-eqb}
 use Rattle.verify_core.specs.SymbolicRuns.{IsDifference, ResultsAgree, ResultsDiffer}
 
 pub kind-in : (k : Kind) (n i : ℕ) → i < width k n → in_kind (Some k) n i ≡ true

@@ -1,18 +1,11 @@
 -- Two microprograms whose result rows are one function each do the same
-use Rattle.std.specs.Prelude.{◌≡◌, ℕ, ◌+◌, ◌*◌, ◌<◌, ◌≤◌, Bool, List, length}
-use Rattle.std.specs.Prelude.{slice_index}
-use Rattle.std.proofs.Common.{sym, ◌∙◌, ap, arith}
-use Rattle.dram_model.specs.Column.{Column}
-use Rattle.op_text.specs.declared.tree.Kind.{Kind}
-use Rattle.uprog_code.specs.Shape.{Shape, results}
-use Rattle.uprog_code.specs.Machine.{Issue}
-use Rattle.uprog_code.specs.Implements.{numbers, Gives}
-use Rattle.uprog_code.specs.Issued.{AreGood}
-use Rattle.bdd.specs.declared.Node.{Node}
-use Rattle.symbolic_column.specs.Symbols.{Cells, column_of}
-use Rattle.binding_laws.specs.Canonical.{canonical, canonical_rows, result_rows, value_rows, bases}
-use Rattle.binding_laws.proofs.Settled.{canonical-fits, base-at, moved}
-use Rattle.binding_laws.proofs.Enough.{enough-from, numbers-same}
+use Rattle.verify_core.proofs.Common.{ℕ, ◌*◌, ◌<◌, ◌≤◌, Bool, List, length, slice_index, sym, ◌∙◌}
+use Rattle.verify_core.proofs.Common.{ap, arith, Column, Kind, Shape, results, Issue, numbers}
+use Rattle.verify_core.proofs.Common.{Gives, AreGood, Node, Cells, column_of, canonical}
+use Rattle.verify_core.proofs.Common.{canonical_rows, result_rows, value_rows, bases}
+use Rattle.verify_core.proofs.Common.{canonical-fits, base-at, moved, numbers-same}
+use Rattle.std.specs.Prelude.{◌≡◌, ◌+◌}
+use Rattle.binding_laws.proofs.Enough.{enough-from}
 use Rattle.verify_core.specs.declared.start.Begin.{Begin}
 use Rattle.verify_core.specs.declared.start.Begin.TheVariants.{Variables}
 use Rattle.verify_core.specs.SymbolicRuns.{IsRun, ResultsAgree}

@@ -1,25 +1,14 @@
 -- Runs on variables, in a diagram that grew, and from a column of one's choice
-use Rattle.std.specs.Prelude.{◌≡◌, ℕ, ◌+◌, ◌*◌, ◌<◌, ◌≤◌, Bool, List, length, slice_index}
-use Rattle.std.proofs.Common.{sym, ◌∙◌, ap, arith}
-use Rattle.bit_rows.specs.Bits.{flip_if}
-use Rattle.dram_model.specs.declared.address.Cell.TheVariants.{T, Dcc, D}
-use Rattle.dram_model.specs.Column.{Column}
-use Rattle.op_text.specs.declared.tree.Kind.{Kind}
-use Rattle.uprog_code.specs.Shape.{Shape}
-use Rattle.uprog_code.specs.Machine.{Issue}
-use Rattle.uprog_code.specs.Bound.{Bound}
-use Rattle.uprog_code.specs.Fits.{Fits}
-use Rattle.uprog_code.specs.Implements.{numbers}
-use Rattle.bdd.specs.declared.Edge.{Edge}
-use Rattle.bdd.specs.declared.Node.{Node}
-use Rattle.bdd.specs.Graphs.{Keeps}
-use Rattle.bdd.proofs.Laws.{value-kept}
-use Rattle.symbolic_column.specs.Symbols.{AreCells, Cells, edge_at, column_of}
-use Rattle.symbolic_column.proofs.Lines.{column-kept, cells-kept}
+use Rattle.verify_core.proofs.Common.{ℕ, ◌*◌, ◌<◌, ◌≤◌, Bool, List, length, slice_index, sym, ◌∙◌}
+use Rattle.verify_core.proofs.Common.{ap, arith, flip_if, T, Dcc, D, Column, Kind, Shape, Issue}
+use Rattle.verify_core.proofs.Common.{Bound, Fits, numbers, Edge, Node, Keeps, value-kept, AreCells}
+use Rattle.verify_core.proofs.Common.{Cells, edge_at, column_of, column-kept, canonical}
+use Rattle.verify_core.proofs.Common.{canonical_rows, result_rows, value_rows, bases}
+use Rattle.verify_core.proofs.Common.{canonical-fits, moved, base-at, numbers-same}
+use Rattle.std.specs.Prelude.{◌≡◌, ◌+◌}
+use Rattle.symbolic_column.proofs.Lines.{cells-kept}
 use Rattle.binding_laws.specs.Alike.{Alike}
-use Rattle.binding_laws.specs.Canonical.{canonical, canonical_rows, result_rows, value_rows, bases}
-use Rattle.binding_laws.proofs.Settled.{canonical-fits, moved, moved-alike, same-alike, base-at, base-small}
-use Rattle.binding_laws.proofs.Enough.{numbers-same}
+use Rattle.binding_laws.proofs.Settled.{moved-alike, same-alike, base-small}
 use Rattle.verify_core.specs.declared.start.Begin.{Begin}
 use Rattle.verify_core.specs.declared.start.Begin.TheVariants.{Variables}
 use Rattle.verify_core.specs.Starts.{IsMeant, IsStart, row_variable}

@@ -1,20 +1,19 @@
 -- Verdicts, by what was found
-use Rattle.std.specs.Prelude.{◌≡◌, ◌⊎◌, ℕ, ◌+◌, ◌<◌, ◌≤◌, nat_lt, Bool, true, false, List, Ok}
-use Rattle.std.specs.Prelude.{if◌then◌else◌, refl}
-use Rattle.std.proofs.Common.{subst, sym, ap, arith, ◌∙◌, inl, inr}
-use Rattle.std.proofs.lemmas.Bool.{ltb-true, lt-ltb, cases_lt}
+use Rattle.verify_core.proofs.Common.{ℕ, ◌<◌, ◌≤◌, nat_lt, Bool, true, false, List, if◌then◌else◌}
+use Rattle.verify_core.proofs.Common.{refl, subst, sym, ap, arith, ◌∙◌, inl, inr, ltb-true, lt-ltb}
+use Rattle.verify_core.proofs.Common.{cases_lt, Shape, trace, issues_of, Gives, AreNodes}
+use Rattle.verify_core.proofs.Common.{canonical_rows}
+use Rattle.std.specs.Prelude.{◌≡◌, ◌⊎◌, ◌+◌, Ok}
 use Rattle.bit_rows.specs.declared.TheConstants.{WIDTH_MAX}
 use Rattle.uprog_code.specs.declared.walker.Counts.{Counts}
 use Rattle.uprog_code.specs.declared.code.Uop.{Uop}
-use Rattle.uprog_code.specs.Shape.{Shape}
-use Rattle.uprog_code.specs.Machine.{Ended, HasEnded, Stuck, Trace, trace, issues_of}
+use Rattle.uprog_code.specs.Machine.{Ended, HasEnded, Stuck, Trace}
 use Rattle.uprog_code.specs.Count.{walked}
-use Rattle.uprog_code.specs.Implements.{Gives, Implements, Keeps}
+use Rattle.uprog_code.specs.Implements.{Implements, Keeps}
 use Rattle.uprog_code.specs.Texts.{TextOp}
 use Rattle.bdd.specs.declared.Limits.{Limits}
 use Rattle.bdd.specs.declared.TheConstants.{DEPTH}
-use Rattle.bdd.specs.Graphs.{AreNodes, Graph}
-use Rattle.binding_laws.specs.Canonical.{canonical_rows}
+use Rattle.bdd.specs.Graphs.{Graph}
 use Rattle.verify_core.specs.declared.case.Case.{Case}
 use Rattle.verify_core.specs.declared.verdict.Limit.TheVariants.{Nodes, Depth, Steps}
 use Rattle.verify_core.specs.declared.verdict.Verdict.{Verdict}

@@ -1,19 +1,14 @@
 -- One row or one number more
-use Rattle.std.specs.Prelude.{◌≡◌, ℕ, zero, suc, ◌+◌, ◌-◌, ◌*◌, ◌<◌, ◌≤◌, ◌^◌, Bool, List, [], ◌∷◌, ◌++◌}
-use Rattle.std.specs.Prelude.{map, slice_get, slice_index_or, length, take, refl}
-use Rattle.std.specs.List.{range_with_len}
-use Rattle.std.proofs.Common.{sym, ◌∙◌, ap, arith, Some}
+use Rattle.verify_core.proofs.Common.{ℕ, zero, suc, ◌-◌, ◌*◌, ◌<◌, ◌≤◌, ◌^◌, Bool, List, [], ◌∷◌}
+use Rattle.verify_core.proofs.Common.{◌++◌, map, slice_get, length, refl, range_with_len, sym, ◌∙◌}
+use Rattle.verify_core.proofs.Common.{ap, arith, Some, length-take, bit_number, Column, number}
+use Rattle.verify_core.proofs.Common.{Kind, width, numbers, bases}
+use Rattle.std.specs.Prelude.{◌≡◌, ◌+◌, slice_index_or, take}
 use Rattle.std.proofs.Math.Pow.{pow_mono}
-use Rattle.std.proofs.lemmas.List.{length-map, length-take}
+use Rattle.std.proofs.lemmas.List.{length-map}
 use Rattle.std.proofs.lemmas.List.FromFn.{length-range_with_len}
-use Rattle.bit_rows.specs.Bits.{bit_number, value}
+use Rattle.bit_rows.specs.Bits.{value}
 use Rattle.bit_rows.proofs.Words.{value-below}
-use Rattle.dram_model.specs.Column.{Column}
-use Rattle.dram_model.specs.Elements.{number}
-use Rattle.op_text.specs.declared.tree.Kind.{Kind}
-use Rattle.uprog_code.specs.Shape.{width}
-use Rattle.uprog_code.specs.Implements.{numbers}
-use Rattle.binding_laws.specs.Canonical.{bases}
 
 -- the number of one row more, below the others
 pub number-more : (s : ℕ → Bool) (base n k : ℕ) → 0 < k → k ≤ n

@@ -1,23 +1,11 @@
 -- An assignment under which two runs differ is a case that fails
-use Rattle.std.specs.Prelude.{◌≡◌, ◌≢◌, ℕ, ◌+◌, ◌*◌, ◌<◌, Bool, true, false, List, slice_index}
-use Rattle.std.specs.Prelude.{refl}
-use Rattle.std.proofs.Common.{sym, ◌∙◌, ap, arith}
-use Rattle.std.proofs.lemmas.Bool.{false≢true}
-use Rattle.bit_rows.specs.Bits.{flip_if}
-use Rattle.dram_model.specs.declared.address.Cell.TheVariants.{D}
-use Rattle.uprog_code.specs.Shape.{Shape, results}
-use Rattle.uprog_code.specs.Machine.{Issue}
-use Rattle.dram_model.specs.Column.{run}
-use Rattle.uprog_code.specs.Bound.{bound}
-use Rattle.uprog_code.specs.Implements.{numbers, Gives}
-use Rattle.uprog_code.specs.Issued.{AreGood}
-use Rattle.bdd.specs.declared.Edge.{Edge}
-use Rattle.bdd.specs.declared.Node.{Node}
-use Rattle.bdd.specs.Graphs.{value}
-use Rattle.symbolic_column.specs.Symbols.{Cells, column_of}
-use Rattle.binding_laws.specs.Canonical.{canonical, canonical_rows, bases}
+use Rattle.verify_core.proofs.Common.{◌≢◌, ℕ, ◌*◌, ◌<◌, Bool, true, false, List, slice_index, refl}
+use Rattle.verify_core.proofs.Common.{sym, ◌∙◌, ap, arith, false≢true, flip_if, D, Shape, results}
+use Rattle.verify_core.proofs.Common.{Issue, run, bound, numbers, Gives, AreGood, Edge, Node, value}
+use Rattle.verify_core.proofs.Common.{Cells, column_of, canonical, canonical_rows, bases}
+use Rattle.verify_core.proofs.Common.{canonical-fits, base-at}
+use Rattle.std.specs.Prelude.{◌≡◌, ◌+◌}
 use Rattle.binding_laws.proofs.Elsewhere.{elsewhere}
-use Rattle.binding_laws.proofs.Settled.{canonical-fits, base-at}
 use Rattle.verify_core.specs.declared.case.Case.{Case}
 use Rattle.verify_core.specs.declared.start.Begin.{Begin}
 use Rattle.verify_core.specs.Starts.{IsMeant}

@@ -1,20 +1,16 @@
 -- A walk that ends with less of the budget ends with more of it, by the same commands.
-use Rattle.std.proofs.Common.{◌≡◌, ℕ, zero, suc, ◌+◌, ◌-◌, ◌<◌, ◌≤◌, Bool, true, false, List, []}
-use Rattle.std.proofs.Common.{◌∷◌, refl, sym, ap, ◌∙◌, subst, arith, inl, inr, ⊎_elim, Option, Some}
-use Rattle.std.proofs.Common.{None}
-use Rattle.std.specs.Prelude.{◌≢◌, ◌⊎◌, ◌==◌, if◌then◌else◌, length, nat_le, slice_get, slice_index, slice_set}
-use Rattle.bit_rows.specs.declared.TheConstants.{WIDTH_MAX}
-use Rattle.uprog_code.specs.declared.TheConstants.{WALK_MAX}
-use Rattle.uprog_code.specs.declared.code.Uop.{Uop}
-use Rattle.uprog_code.specs.declared.code.Uop.TheVariants.{Done, SetI, SetN, SetT, Mov, Add, AddI}
-use Rattle.uprog_code.specs.declared.code.Uop.TheVariants.{SubI, Bnez, Aap, Ap}
-use Rattle.uprog_code.specs.declared.walker.Why3.{Why3}
-use Rattle.uprog_code.specs.declared.walker.Why3.TheVariants.{Index, Register}
-use Rattle.uprog_code.specs.Shape.{Microprogram, Shape}
-use Rattle.uprog_code.specs.Machine.{Ended, HasEnded, Issue, IssueAap, IssueAp, Next, Stuck, Trace}
-use Rattle.uprog_code.specs.Machine.{act, act_at, all_in_range, command_at, issue, issued, issues_of}
-use Rattle.uprog_code.specs.Machine.{onto, start, trace}
-use Rattle.uprog_code.proofs.Steps.{trace_is}
+use Rattle.width_entry.proofs.Common.{◌≡◌, ℕ, zero, suc, ◌+◌, ◌-◌, ◌<◌, ◌≤◌, Bool, true, false}
+use Rattle.width_entry.proofs.Common.{List, [], ◌∷◌, refl, sym, ap, ◌∙◌, subst, arith, ⊎_elim}
+use Rattle.width_entry.proofs.Common.{Option, Some, None, ◌≢◌, ◌==◌, if◌then◌else◌, nat_le}
+use Rattle.width_entry.proofs.Common.{slice_get, slice_index, slice_set, WIDTH_MAX, WALK_MAX, Uop}
+use Rattle.width_entry.proofs.Common.{Done, SetI, SetN, SetT, Mov, Add, AddI, SubI, Bnez, Aap, Ap}
+use Rattle.width_entry.proofs.Common.{Why3, Index, Register, Microprogram, Shape, Ended, HasEnded}
+use Rattle.width_entry.proofs.Common.{Issue, IssueAap, IssueAp, Next, Stuck, Trace, act, act_at}
+use Rattle.width_entry.proofs.Common.{all_in_range, command_at, issue, issued, onto, start, trace}
+use Rattle.width_entry.proofs.Common.{trace_is}
+use Rattle.std.proofs.Common.{inl, inr}
+use Rattle.std.specs.Prelude.{◌⊎◌, length}
+use Rattle.uprog_code.specs.Machine.{issues_of}
 use Rattle.width_entry.specs.Lines.{line_room}
 use Rattle.width_entry.specs.Widths.{IsForWidth, IssuesSame, moved, test_steps, trace_less}
 

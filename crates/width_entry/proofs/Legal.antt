@@ -1,31 +1,26 @@
 -- The code of an entry for a width is legal.
-use Rattle.std.proofs.Common.{◌≡◌, ℕ, zero, suc, ◌+◌, ◌-◌, ◌*◌, ◌<◌, ◌≤◌, true, List}
-use Rattle.std.proofs.Common.{[], ◌∷◌, ◌++◌, length, map, refl, sym, ap, ◌∙◌, subst, ⊎_elim, arith}
-use Rattle.std.specs.Prelude.{◌&&◌, ◌^◌, ◌==◌, if◌then◌else◌, nat_lt, nat_le, slice_get}
+use Rattle.width_entry.proofs.Common.{and_from, and_parts, ◌≡◌, ℕ, zero, suc, ◌+◌, ◌-◌, ◌*◌, ◌<◌}
+use Rattle.width_entry.proofs.Common.{◌≤◌, true, List, [], ◌∷◌, ◌++◌, length, map, refl, sym, ap}
+use Rattle.width_entry.proofs.Common.{◌∙◌, subst, ⊎_elim, arith, ◌&&◌, ◌^◌, ◌==◌, if◌then◌else◌}
+use Rattle.width_entry.proofs.Common.{nat_lt, nat_le, slice_get, option_map, cases_lt, eqb-true}
+use Rattle.width_entry.proofs.Common.{lt-ltb, le-leb, eqb-suc-zero, append_assoc, length-append}
+use Rattle.width_entry.proofs.Common.{slice_get-map, RowSpace, RowRef, Uop, Done, SetI, SetN, SetT}
+use Rattle.width_entry.proofs.Common.{Mov, Add, AddI, SubI, Bnez, Aap, Ap, Shape, Issue, IssueAap}
+use Rattle.width_entry.proofs.Common.{IssueAp, is_issued_in, IsLegalCode, may_be_first}
+use Rattle.width_entry.proofs.Common.{may_be_second, some_first}
 use Rattle.std.specs.List.{AllByRecursion}
-use Rattle.std.specs.Option.{option_map}
-use Rattle.std.proofs.lemmas.Bool.{cases_lt, eqb-true, ltb-true, lt-ltb, le-leb}
-use Rattle.std.proofs.Math.Dec.{eqb-suc-zero}
+use Rattle.std.proofs.lemmas.Bool.{ltb-true}
 use Rattle.std.proofs.Math.Nat.{mul_comm, mul-le-mul_left}
-use Rattle.std.proofs.lemmas.List.{append_assoc, length-append, length-map}
-use Rattle.std.proofs.lemmas.Option.{slice_get-map}
+use Rattle.std.proofs.lemmas.List.{length-map}
 use Rattle.op_text.specs.declared.tree.Kind.{Kind}
-use Rattle.uprog_code.specs.declared.code.RowSpace.{RowSpace}
+use Rattle.uprog_code.specs.Shape.{results}
+use Rattle.uprog_code.specs.Machine.{in_kind}
+use Rattle.uprog_code.specs.Legal.{is_first, is_legal, is_place, is_row, is_second}
 use Rattle.uprog_code.specs.declared.code.RowSpace.TheVariants as space
-use Rattle.uprog_code.specs.declared.code.RowRef.{RowRef}
-use Rattle.uprog_code.specs.declared.code.Uop.{Uop}
-use Rattle.uprog_code.specs.declared.code.Uop.TheVariants.{Done, SetI, SetN, SetT, Mov, Add, AddI}
-use Rattle.uprog_code.specs.declared.code.Uop.TheVariants.{SubI, Bnez, Aap, Ap}
-use Rattle.uprog_code.specs.Shape.{Shape, results}
-use Rattle.uprog_code.specs.Machine.{Issue, IssueAap, IssueAp, in_kind}
-use Rattle.uprog_code.specs.Issued.{is_issued_in}
-use Rattle.uprog_code.specs.Legal.{IsLegalCode, is_first, is_legal, is_place, is_row, is_second}
-use Rattle.uprog_code.specs.Legal.{may_be_first, may_be_second}
-use Rattle.uprog_code.proofs.Steps.{some_first}
 use Rattle.width_entry.specs.Lines.{AreNameable, is_named, is_nameable, is_position}
 use Rattle.width_entry.specs.Code.{behind, command_code, line_code, moved_uop, no_register, row_by}
 use Rattle.width_entry.specs.Code.{setting, test_code}
-use Rattle.width_entry.proofs.Lines.{both, pair, set_is}
+use Rattle.width_entry.proofs.Lines.{set_is}
 use Rattle.width_entry.proofs.Steps.{beyond}
 
 all_append : {X : Type 0} (P : X → Type 0) (xs ys : List X) → AllByRecursion P xs
@@ -63,25 +58,25 @@ module _ (shape : Shape) (n : ℕ) where
   place_by : (r : ℕ) (s : RowSpace) (which i : ℕ) → nat_le r 8 ≡ true
       → is_issued_in shape n s which i ≡ true → is_position s i ≡ true
       → is_place shape s which (index_by r s i) ≡ true
-  place_by r space.B which zero small h p = pair (nat_lt which 16) true h refl
+  place_by r space.B which zero small h p = and_from (nat_lt which 16) true h refl
   place_by r space.B which (suc i) small h p = absurd (no_suc i p)
-  place_by r space.C which zero small h p = pair (nat_lt which 2) true h refl
+  place_by r space.C which zero small h p = and_from (nat_lt which 2) true h refl
   place_by r space.C which (suc i) small h p = absurd (no_suc i p)
   place_by r space.Result which zero small h p =
-      pair (nat_lt which (length (results shape))) true (kind_there (results shape) which n 0 h) refl
-  place_by r space.Result which (suc i) small h p = pair (nat_lt which (length (results shape)))
+      and_from (nat_lt which (length (results shape))) true (kind_there (results shape) which n 0 h) refl
+  place_by r space.Result which (suc i) small h p = and_from (nat_lt which (length (results shape)))
       (nat_le r 8) (kind_there (results shape) which n (suc i) h) small
   place_by r space.Source which zero small h p =
-      pair (nat_lt which (length shape.sources)) true (kind_there shape.sources which n 0 h) refl
-  place_by r space.Source which (suc i) small h p = pair (nat_lt which (length shape.sources))
+      and_from (nat_lt which (length shape.sources)) true (kind_there shape.sources which n 0 h) refl
+  place_by r space.Source which (suc i) small h p = and_from (nat_lt which (length shape.sources))
       (nat_le r 8) (kind_there shape.sources which n (suc i) h) small
-  place_by r space.ScratchBit which zero small h p = pair (nat_lt which shape.bits) true h refl
+  place_by r space.ScratchBit which zero small h p = and_from (nat_lt which shape.bits) true h refl
   place_by r space.ScratchBit which (suc i) small h p = absurd (no_suc i p)
   place_by r space.ScratchWord which zero small h p =
-      pair (nat_lt which shape.words) true (word_there which n 0 shape.words h) refl
-  place_by r space.ScratchWord which (suc i) small h p = pair (nat_lt which shape.words)
+      and_from (nat_lt which shape.words) true (word_there which n 0 shape.words h) refl
+  place_by r space.ScratchWord which (suc i) small h p = and_from (nat_lt which shape.words)
       (nat_le r 8) (word_there which n (suc i) shape.words h) small
-  place_by r space.Spill which zero small h p = pair (nat_lt which 32) true h refl
+  place_by r space.Spill which zero small h p = and_from (nat_lt which 32) true h refl
   place_by r space.Spill which (suc i) small h p = absurd (no_suc i p)
 
   index_is : (r : ℕ) (x : RowRef) (i : ℕ) → x.index ≡ i
@@ -94,7 +89,7 @@ module _ (shape : Shape) (n : ℕ) where
   row_legal : (r : ℕ) (x : RowRef) → nat_le r 8 ≡ true → is_named shape n x ≡ true
       → is_row shape (row_by r x) ≡ true
   row_legal r x small h =
-      let b = both (is_issued_in shape n x.space x.which x.index) (is_position x.space x.index) h in
+      let b = and_parts (is_issued_in shape n x.space x.which x.index) (is_position x.space x.index) h in
       ap (is_place shape x.space x.which) (index_is r x x.index refl)
       ∙ place_by r x.space x.which x.index small b.0 b.1
 
@@ -103,7 +98,7 @@ module _ (shape : Shape) (n : ℕ) where
       (setting r (record { space = s; which = which; index = suc i }))
   set_one size r s which i small p =
       subst (AllByRecursion (λ u. is_legal shape size u ≡ true)) (sym (set_is r s which i))
-      (pair (nat_lt r 8) (nat_le (suc i) 1023) small p, tt)
+      (and_from (nat_lt r 8) (nat_le (suc i) 1023) small p, tt)
 
   setting_legal : (size r : ℕ) (s : RowSpace) (which i : ℕ) → nat_lt r 8 ≡ true
       → is_position s i ≡ true
@@ -122,32 +117,32 @@ module _ (shape : Shape) (n : ℕ) where
   setting_legal size r space.Spill which (suc i) small p = absurd (no_suc i p)
 
   position_of : (x : RowRef) → is_named shape n x ≡ true → is_position x.space x.index ≡ true
-  position_of x h = (both (is_issued_in shape n x.space x.which x.index)
+  position_of x h = (and_parts (is_issued_in shape n x.space x.which x.index)
       (is_position x.space x.index) h).1
 
   command_legal : (size : ℕ) (c : Issue) → is_nameable shape n c ≡ true
       → AllByRecursion (λ u. is_legal shape size u ≡ true) (command_code c)
   command_legal size (IssueAp x) h =
-      let b = both (is_named shape n x) (may_be_first x.space x.which) h in
+      let b = and_parts (is_named shape n x) (may_be_first x.space x.which) h in
       all_append (λ u. is_legal shape size u ≡ true) (setting 0 x) (Ap (row_by 0 x) ∷ [])
       (setting_legal size 0 x.space x.which x.index refl (position_of x b.0)) (
-        pair (is_row shape (row_by 0 x)) (may_be_first x.space x.which) (row_legal 0 x refl b.0) b.1,
+        and_from (is_row shape (row_by 0 x)) (may_be_first x.space x.which) (row_legal 0 x refl b.0) b.1,
         tt,
       )
   command_legal size (IssueAap x y) h =
-      let b = both (is_named shape n x && may_be_first x.space x.which)
+      let b = and_parts (is_named shape n x && may_be_first x.space x.which)
       (is_named shape n y && may_be_second y.space) h in
-      let c = both (is_named shape n x) (may_be_first x.space x.which) b.0 in
-      let d = both (is_named shape n y) (may_be_second y.space) b.1 in
+      let c = and_parts (is_named shape n x) (may_be_first x.space x.which) b.0 in
+      let d = and_parts (is_named shape n y) (may_be_second y.space) b.1 in
       let P : Uop → Type 0 = λ u. is_legal shape size u ≡ true in
       let aap = Aap (row_by 0 x) (row_by 1 y) in
       all_append P (setting 0 x) (setting 1 y ++ aap ∷ [])
       (setting_legal size 0 x.space x.which x.index refl (position_of x c.0))
       (all_append P (setting 1 y) (aap ∷ [])
       (setting_legal size 1 y.space y.which y.index refl (position_of y d.0)) (
-        pair (is_first shape (row_by 0 x)) (is_second shape (row_by 1 y))
-            (pair (is_row shape (row_by 0 x)) (may_be_first x.space x.which) (row_legal 0 x refl c.0) c.1)
-            (pair (is_row shape (row_by 1 y)) (may_be_second y.space) (row_legal 1 y refl d.0) d.1),
+        and_from (is_first shape (row_by 0 x)) (is_second shape (row_by 1 y))
+            (and_from (is_row shape (row_by 0 x)) (may_be_first x.space x.which) (row_legal 0 x refl c.0) c.1)
+            (and_from (is_row shape (row_by 1 y)) (may_be_second y.space) (row_legal 1 y refl d.0) d.1),
         tt,
       ))
 
@@ -168,9 +163,9 @@ module _ (shape : Shape) (n : ℕ) where
   moved_legal by own size (AddI r k) le h = h
   moved_legal by own size (SubI r k) le h = h
   moved_legal by own size (Bnez r t) le h =
-      let b = both (nat_lt r 8) (nat_lt t own) h in
+      let b = and_parts (nat_lt r 8) (nat_lt t own) h in
       let lt = ltb-true t own b.1 in
-      pair (nat_lt r 8) (nat_lt (t + by) size) b.0 (lt-ltb (t + by) size (omega (arith, lt, le)))
+      and_from (nat_lt r 8) (nat_lt (t + by) size) b.0 (lt-ltb (t + by) size (omega (arith, lt, le)))
   moved_legal by own size (Aap x y) le h = h
   moved_legal by own size (Ap x) le h = h
 

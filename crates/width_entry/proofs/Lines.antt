@@ -1,34 +1,18 @@
 -- The instructions of a line issue its commands.
-use Rattle.std.proofs.Common.{◌≡◌, ℕ, zero, suc, ◌+◌, ◌-◌, ◌<◌, Bool, true, false, List, []}
-use Rattle.std.proofs.Common.{◌∷◌, ◌++◌, length, refl, sym, ap, ◌∙◌, arith, Some}
-use Rattle.std.specs.Prelude.{◌&&◌, if◌then◌else◌, slice_get, slice_index}
-use Rattle.std.proofs.Math.Dec.{eqb-suc-zero}
-use Rattle.std.proofs.lemmas.Bool.{eqb-true}
-use Rattle.std.proofs.lemmas.List.{append_assoc, length-append}
+use Rattle.width_entry.proofs.Common.{and_from, and_parts, ◌≡◌, ℕ, zero, suc, ◌+◌, ◌-◌, ◌<◌, Bool}
+use Rattle.width_entry.proofs.Common.{true, false, List, [], ◌∷◌, ◌++◌, length, refl, sym, ap, ◌∙◌}
+use Rattle.width_entry.proofs.Common.{arith, Some, ◌&&◌, if◌then◌else◌, slice_get, slice_index}
+use Rattle.width_entry.proofs.Common.{eqb-suc-zero, eqb-true, append_assoc, length-append, RowSpace}
+use Rattle.width_entry.proofs.Common.{RowRef, Uop, Done, SetI, Aap, Ap, Index, Shape, Ended, Issue}
+use Rattle.width_entry.proofs.Common.{IssueAap, IssueAp, Stuck, Trace, all_in_range, command_at}
+use Rattle.width_entry.proofs.Common.{issued, onto, is_issued_in, may_be_first, may_be_second}
 use Rattle.std.proofs.lemmas.List.Sums.{sum_by-cons}
-use Rattle.uprog_code.specs.declared.code.RowSpace.{RowSpace}
+use Rattle.uprog_code.specs.Machine.{in_range, in_space, position, row_at}
 use Rattle.uprog_code.specs.declared.code.RowSpace.TheVariants as space
-use Rattle.uprog_code.specs.declared.code.RowRef.{RowRef}
-use Rattle.uprog_code.specs.declared.code.Uop.{Uop}
-use Rattle.uprog_code.specs.declared.code.Uop.TheVariants.{Done, SetI, Aap, Ap}
-use Rattle.uprog_code.specs.declared.walker.Why3.TheVariants.{Index}
-use Rattle.uprog_code.specs.Shape.{Shape}
-use Rattle.uprog_code.specs.Machine.{Ended, Issue, IssueAap, IssueAp, Stuck, Trace, all_in_range}
-use Rattle.uprog_code.specs.Machine.{command_at, in_range, in_space, issued, onto}
-use Rattle.uprog_code.specs.Machine.{position, row_at}
-use Rattle.uprog_code.specs.Issued.{is_issued_in}
-use Rattle.uprog_code.specs.Legal.{may_be_first, may_be_second}
 use Rattle.width_entry.specs.Lines.{AreNameable, is_named, is_nameable, is_position, line_room, room}
 use Rattle.width_entry.specs.Lines.{row_room}
 use Rattle.width_entry.specs.Code.{command_code, line_code, no_register, row_by, setting}
 use Rattle.width_entry.proofs.Steps.{go, seam, set_first, set_second, step, two}
-
-pub both : (a b : Bool) → (a && b) ≡ true → (a ≡ true) × (b ≡ true)
-both true b h = (refl, h)
-both false b h = absurd (cc)
-
-pub pair : (a b : Bool) → a ≡ true → b ≡ true → (a && b) ≡ true
-pair a b p q = rw p q
 
 -- a row that is named lies in its value
 in_value : (shape : Shape) (n : ℕ) (s : RowSpace) (which i : ℕ)
@@ -44,7 +28,7 @@ in_value shape n space.Spill which i h = refl
 pub named_in_range : (shape : Shape) (n : ℕ) (r : RowRef) → is_named shape n r ≡ true
     → in_range shape n r ≡ true
 named_in_range shape n r h = in_value shape n r.space r.which r.index
-    (both (is_issued_in shape n r.space r.which r.index) (is_position r.space r.index) h).0
+    (and_parts (is_issued_in shape n r.space r.which r.index) (is_position r.space r.index) h).0
 
 -- a register with the position gives it
 position_is : (s : RowSpace) (i : ℕ) → is_position s i ≡ true → position s i ≡ i
@@ -206,14 +190,14 @@ module _ (shape : Shape) (code : List Uop) (n : ℕ) where
 
   module _ (x : RowRef) where
     placed : is_named shape n x ≡ true → is_position x.space x.index ≡ true
-    placed h = (both (is_issued_in shape n x.space x.which x.index)
+    placed h = (and_parts (is_issued_in shape n x.space x.which x.index)
         (is_position x.space x.index) h).1
 
   does : (c : Issue) (pre rest : List Uop) (all left a b : ℕ) → is_nameable shape n c ≡ true
       → all ≡ left + room c → code ≡ pre ++ (command_code c ++ rest)
       → Does c pre rest all left a b
   does (IssueAp x) pre rest all left a b h e is =
-      let parts = both (is_named shape n x) (may_be_first x.space x.which) h in
+      let parts = and_parts (is_named shape n x) (may_be_first x.space x.which) h in
       let ap_x = Ap (row_by 0 x) in
       let f = first_set x.space x.which x.index (placed x parts.0) pre (ap_x ∷ rest) all (left + 1)
       a b (omega arith) (is ∙ ap (λ us. pre ++ us) (append_assoc (setting 0 x) (ap_x ∷ []) rest)) in
@@ -233,10 +217,10 @@ module _ (shape : Shape) (code : List Uop) (n : ℕ) where
             (behind_one f.pre' ap_x);
       }
   does (IssueAap x y) pre rest all left a b h e is =
-      let parts = both (is_named shape n x && may_be_first x.space x.which)
+      let parts = and_parts (is_named shape n x && may_be_first x.space x.which)
       (is_named shape n y && may_be_second y.space) h in
-      let one = both (is_named shape n x) (may_be_first x.space x.which) parts.0 in
-      let other = both (is_named shape n y) (may_be_second y.space) parts.1 in
+      let one = and_parts (is_named shape n x) (may_be_first x.space x.which) parts.0 in
+      let other = and_parts (is_named shape n y) (may_be_second y.space) parts.1 in
       let aap = Aap (row_by 0 x) (row_by 1 y) in
       let f = first_set x.space x.which x.index (placed x one.0) pre
       (setting 1 y ++ aap ∷ rest) all (left + 1 + row_room y) a b (omega arith)
@@ -258,7 +242,7 @@ module _ (shape : Shape) (code : List Uop) (n : ℕ) where
             (IssueAap x y) (length g.pre') (go shape code n left (length g.pre' + 1) f.reg g.reg)
             (ap (λ r. IssueAap r (row_at (two f.reg g.reg) (row_by 1 y))) (f.gives g.reg)
             ∙ ap (IssueAap x) (g.gives f.reg))
-            (pair (in_range shape n x) (in_range shape n y) (named_in_range shape n x one.0)
+            (and_from (in_range shape n x) (in_range shape n y) (named_in_range shape n x one.0)
             (named_in_range shape n y other.0))
             ∙ ap (λ q. onto (IssueAap x y ∷ []) (go shape code n left q f.reg g.reg))
             (behind_one g.pre' aap);

@@ -1,13 +1,7 @@
 -- An entry for a width is as its code says.
-use Rattle.std.proofs.Common.{◌≡◌, ℕ, ◌+◌, ◌-◌, ◌<◌, ◌≤◌, List, length, refl, sym, ap, ◌∙◌, subst}
-use Rattle.std.proofs.Common.{arith}
-use Rattle.std.specs.Prelude.{◌^◌}
-use Rattle.bit_rows.specs.declared.TheConstants.{WIDTH_MAX}
-use Rattle.uprog_code.specs.declared.TheConstants.{WALK_MAX}
-use Rattle.uprog_code.specs.declared.code.Uop.{Uop}
-use Rattle.uprog_code.specs.Shape.{Microprogram, Shape}
-use Rattle.uprog_code.specs.Machine.{Issue, issue, start}
-use Rattle.uprog_code.specs.Legal.{IsLegalCode}
+use Rattle.width_entry.proofs.Common.{◌≡◌, ℕ, ◌+◌, ◌-◌, ◌<◌, ◌≤◌, List, length, refl, sym, ap, ◌∙◌}
+use Rattle.width_entry.proofs.Common.{subst, arith, ◌^◌, WIDTH_MAX, WALK_MAX, Uop, Microprogram}
+use Rattle.width_entry.proofs.Common.{Shape, Issue, issue, start, IsLegalCode}
 use Rattle.width_entry.specs.Lines.{AreNameable, line_room}
 use Rattle.width_entry.specs.Code.{behind, line_code}
 use Rattle.width_entry.specs.Widths.{IsForWidth, moved, test_steps}

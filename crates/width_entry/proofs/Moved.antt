@@ -1,17 +1,12 @@
 -- Code behind other instructions issues what it issues alone.
-use Rattle.std.proofs.Common.{◌≡◌, ℕ, zero, suc, ◌+◌, ◌-◌, Bool, true, false, List, [], ◌∷◌, ◌++◌}
-use Rattle.std.proofs.Common.{length, map, refl, ap, ◌∙◌, arith, Option, Some, None}
-use Rattle.std.specs.Prelude.{◌==◌, if◌then◌else◌, nat_le, slice_get, slice_index, slice_set}
-use Rattle.std.specs.Option.{option_map}
-use Rattle.std.proofs.lemmas.Option.{slice_get-map}
-use Rattle.uprog_code.specs.declared.code.Uop.{Uop}
-use Rattle.uprog_code.specs.declared.code.Uop.TheVariants.{Done, SetI, SetN, SetT, Mov, Add, AddI}
-use Rattle.uprog_code.specs.declared.code.Uop.TheVariants.{SubI, Bnez, Aap, Ap}
-use Rattle.uprog_code.specs.declared.walker.Why3.{Why3}
-use Rattle.uprog_code.specs.declared.walker.Why3.TheVariants.{Budget, Index, Register}
-use Rattle.uprog_code.specs.Shape.{Shape}
-use Rattle.uprog_code.specs.Machine.{Ended, Issue, IssueAap, IssueAp, Next, Stuck, Trace, act, act_at}
-use Rattle.uprog_code.specs.Machine.{all_in_range, command_at, issue, issued, onto}
+use Rattle.width_entry.proofs.Common.{◌≡◌, ℕ, zero, suc, ◌+◌, ◌-◌, Bool, true, false, List, [], ◌∷◌}
+use Rattle.width_entry.proofs.Common.{◌++◌, length, map, refl, ap, ◌∙◌, arith, Option, Some, None}
+use Rattle.width_entry.proofs.Common.{◌==◌, if◌then◌else◌, nat_le, slice_get, slice_index}
+use Rattle.width_entry.proofs.Common.{slice_set, option_map, slice_get-map, Uop, Done, SetI, SetN}
+use Rattle.width_entry.proofs.Common.{SetT, Mov, Add, AddI, SubI, Bnez, Aap, Ap, Why3, Budget}
+use Rattle.width_entry.proofs.Common.{Index, Register, Shape, Ended, Issue, IssueAap, IssueAp, Next}
+use Rattle.width_entry.proofs.Common.{Stuck, Trace, act, act_at, all_in_range, command_at, issue}
+use Rattle.width_entry.proofs.Common.{issued, onto}
 use Rattle.width_entry.specs.Code.{moved_uop}
 use Rattle.width_entry.specs.Widths.{moved}
 use Rattle.width_entry.proofs.Steps.{beyond}

@@ -1,16 +1,13 @@
 -- The commands of a line, one after another.
-use Rattle.std.proofs.Common.{◌≡◌, ℕ, suc, ◌+◌, ◌<◌, Bool, true, false, cond, List, []}
-use Rattle.std.proofs.Common.{◌∷◌, ◌++◌, length, refl, sym, ap, ◌∙◌, arith, Some, None}
-use Rattle.std.proofs.Common.{take, get_or}
-use Rattle.std.specs.Prelude.{nat_lt, not}
+use Rattle.width_entry.proofs.Common.{◌≡◌, ℕ, suc, ◌+◌, ◌<◌, Bool, true, false, List, [], ◌∷◌, ◌++◌}
+use Rattle.width_entry.proofs.Common.{length, refl, sym, ap, ◌∙◌, arith, Some, None, take, get_or}
+use Rattle.width_entry.proofs.Common.{nat_lt, append_assoc, append-nil, take_more, Issued, Shape}
+use Rattle.width_entry.proofs.Common.{Issue, issue_of}
+use Rattle.std.proofs.Common.{cond}
+use Rattle.std.specs.Prelude.{not}
 use Rattle.std.specs.List.{position_or_len}
 use Rattle.std.proofs.lemmas.Bool.{ltb-false}
-use Rattle.std.proofs.lemmas.List.{append_assoc, append-nil, take_more}
 use Rattle.std.proofs.lemmas.List.Sums.{fails_before_first}
-use Rattle.uprog_code.specs.declared.registers.Issued.{Issued}
-use Rattle.uprog_code.specs.Shape.{Shape}
-use Rattle.uprog_code.specs.Machine.{Issue}
-use Rattle.uprog_code.specs.OneStep.{issue_of}
 use Rattle.width_entry.specs.Lines.{AreNameable, first_unnamed, is_nameable, issues}
 use Rattle.width_entry.specs.Code.{command_code, line_code}
 

@@ -1,14 +1,8 @@
 -- Single steps of a walk, where only the first two registers are used.
-use Rattle.std.proofs.Common.{◌≡◌, ℕ, suc, ◌+◌, List, [], ◌∷◌, ◌++◌, length, refl, ap, ◌∙◌}
-use Rattle.std.proofs.Common.{arith, Some, ◌-◌, true}
-use Rattle.std.specs.Prelude.{if◌then◌else◌, nat_le, slice_get}
-use Rattle.std.proofs.Math.Dec.{eqb-suc-zero}
-use Rattle.std.proofs.lemmas.Bool.{le-leb}
-use Rattle.uprog_code.specs.declared.walker.Why3.TheVariants.{Register}
-use Rattle.uprog_code.specs.declared.code.Uop.{Uop}
-use Rattle.uprog_code.specs.declared.code.Uop.TheVariants.{SetI, SetN, SubI, Bnez}
-use Rattle.uprog_code.specs.Shape.{Shape}
-use Rattle.uprog_code.specs.Machine.{Stuck, Trace, act, act_at, issue}
+use Rattle.width_entry.proofs.Common.{◌≡◌, ℕ, suc, ◌+◌, List, [], ◌∷◌, ◌++◌, length, refl, ap, ◌∙◌}
+use Rattle.width_entry.proofs.Common.{arith, Some, ◌-◌, true, if◌then◌else◌, nat_le, slice_get}
+use Rattle.width_entry.proofs.Common.{eqb-suc-zero, le-leb, Register, Uop, SetI, SetN, SubI, Bnez}
+use Rattle.width_entry.proofs.Common.{Shape, Stuck, Trace, act, act_at, issue}
 
 -- the first of the second part of a list
 pub seam : {X : Type 0} (pre : List X) (x : X) (post : List X)

@@ -1,9 +1,6 @@
 -- The test of a width: where it leads at the width and at others, and in how many instructions.
-use Rattle.std.proofs.Common.{◌≡◌, ℕ, zero, suc, ◌+◌, ◌*◌, List, refl, ap, ◌∙◌, arith, Some}
-use Rattle.std.specs.Prelude.{slice_get}
-use Rattle.uprog_code.specs.declared.code.Uop.{Uop}
-use Rattle.uprog_code.specs.declared.code.Uop.TheVariants.{SetI, SetN, SubI, Bnez}
-use Rattle.uprog_code.specs.Shape.{Shape}
+use Rattle.width_entry.proofs.Common.{◌≡◌, ℕ, zero, suc, ◌+◌, ◌*◌, List, refl, ap, ◌∙◌, arith, Some}
+use Rattle.width_entry.proofs.Common.{slice_get, Uop, SetI, SetN, SubI, Bnez, Shape}
 use Rattle.width_entry.proofs.Steps.{go, set_first, set_second, set_width, less_first, less_second}
 use Rattle.width_entry.proofs.Steps.{jump_first, stay_first, jump_second, stay_second}
 

@@ -1,14 +1,10 @@
 -- The commands so far and what is left to issue.
-use Rattle.std.proofs.Common.{◌≡◌, ℕ, suc, List, [], ◌++◌, refl, sym, ap, ◌∙◌, subst, Some}
+use Rattle.width_entry.proofs.Common.{◌≡◌, ℕ, suc, List, [], ◌++◌, refl, sym, ap, ◌∙◌, subst, Some}
+use Rattle.width_entry.proofs.Common.{slice_get, append_assoc, append-nil, Uop, Why3, Shape, Ended}
+use Rattle.width_entry.proofs.Common.{HasEnded, Issue, Next, Stuck, Trace, act, issue, onto}
+use Rattle.width_entry.proofs.Common.{turn_trace}
 use Rattle.std.proofs.Common.{Result}
-use Rattle.std.specs.Prelude.{slice_get}
-use Rattle.std.proofs.lemmas.List.{append_assoc, append-nil}
-use Rattle.uprog_code.specs.declared.code.Uop.{Uop}
 use Rattle.uprog_code.specs.declared.registers.Turn.{Turn}
-use Rattle.uprog_code.specs.declared.walker.Why3.{Why3}
-use Rattle.uprog_code.specs.Shape.{Shape}
-use Rattle.uprog_code.specs.Machine.{Ended, HasEnded, Issue, Next, Stuck, Trace, act, issue, onto}
-use Rattle.uprog_code.specs.OneStep.{turn_trace}
 use Rattle.uprog_code.proofs.Steps.{one_step}
 
 pub onto_nil : (t : Trace) → onto [] t ≡ t

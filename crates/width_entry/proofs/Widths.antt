@@ -1,16 +1,10 @@
 -- What the code of an entry for a width issues at that width, and at all others.
-use Rattle.std.proofs.Common.{◌≡◌, ℕ, suc, ◌+◌, ◌-◌, ◌*◌, ◌<◌, ◌≤◌, List}
-use Rattle.std.proofs.Common.{◌∷◌, ◌++◌, length, map, refl, sym, ap, ◌∙◌, arith, Some}
-use Rattle.std.specs.Prelude.{◌≢◌, ◌^◌, if◌then◌else◌, slice_get}
-use Rattle.std.proofs.Common.{⊎_elim}
-use Rattle.std.proofs.lemmas.Bool.{cases_lt, le-ltb, lt-ltb}
-use Rattle.bit_rows.specs.declared.TheConstants.{WIDTH_MAX}
-use Rattle.uprog_code.specs.declared.TheConstants.{WALK_MAX}
-use Rattle.uprog_code.specs.declared.code.Uop.{Uop}
-use Rattle.uprog_code.specs.declared.code.Uop.TheVariants.{Done, SetI}
-use Rattle.uprog_code.specs.Shape.{Shape}
-use Rattle.uprog_code.specs.Machine.{Ended, Issue, issue, start, trace}
-use Rattle.uprog_code.proofs.Steps.{trace_is}
+use Rattle.width_entry.proofs.Common.{◌≡◌, ℕ, suc, ◌+◌, ◌-◌, ◌*◌, ◌<◌, ◌≤◌, List, ◌∷◌, ◌++◌, length}
+use Rattle.width_entry.proofs.Common.{map, refl, sym, ap, ◌∙◌, arith, Some, ◌≢◌, ◌^◌, if◌then◌else◌}
+use Rattle.width_entry.proofs.Common.{slice_get, ⊎_elim, cases_lt, lt-ltb, WIDTH_MAX, WALK_MAX, Uop}
+use Rattle.width_entry.proofs.Common.{Done, SetI, Shape, Ended, Issue, issue, start, trace}
+use Rattle.width_entry.proofs.Common.{trace_is}
+use Rattle.std.proofs.lemmas.Bool.{le-ltb}
 use Rattle.width_entry.specs.Lines.{AreNameable}
 use Rattle.width_entry.specs.Code.{behind, line_code, moved_uop, test_code}
 use Rattle.width_entry.specs.Widths.{moved, test_steps}

@@ -1,4 +1,5 @@
 -- The flows of a table's lines, one line more.
+use Rattle.std.proofs.lemmas.Bool.{and_parts}
 use Rattle.word_flow.proofs.Common.{◌≡◌, ℕ, zero, suc, ◌+◌, ◌-◌, ◌<◌, ◌≤◌, List, [], ◌∷◌, ◌++◌, map}
 use Rattle.word_flow.proofs.Common.{drop, length, reverse, slice_index_or, refl, sym, ap, ◌∙◌}
 use Rattle.word_flow.proofs.Common.{arith, ◌&&◌, map-append, reverse-append, drop_more, Slot}
@@ -48,14 +49,10 @@ flows_more owners ls k d flows begun new f some le so first others en =
     ∙ sym (reverse-append (first_of made ∷ []) (others_of made))
     ∙ ap reverse (line_first g l fs ∙ sym back)
 
-both : (a b : Bool) → (a && b) ≡ true → (a ≡ true) × (b ≡ true)
-both true b e = (refl, e)
-both false b e = cc
-
 -- each line of a table holds
 pub line_at : (ls : List Line) (k : ℕ) (d : Line) → lines_hold ls ≡ true → k < length ls
     → line_holds (slice_index_or ls k d) ≡ true
 line_at [] k d h lt = absurd (omega (arith, lt))
-line_at (l ∷ ls) zero d h lt = (both (line_holds l) (lines_hold ls) h).0
-line_at (l ∷ ls) (suc k) d h lt = line_at ls k d (both (line_holds l) (lines_hold ls) h).1
+line_at (l ∷ ls) zero d h lt = (and_parts (line_holds l) (lines_hold ls) h).0
+line_at (l ∷ ls) (suc k) d h lt = line_at ls k d (and_parts (line_holds l) (lines_hold ls) h).1
     (omega (arith, lt))

@@ -1,5 +1,6 @@
 -- Rooms that are the places of a statement's names and of its internal scratch: they lie apart, and
 -- their rows are the statement's.
+use Rattle.std.proofs.lemmas.Bool.{or_left, or_right}
 use Rattle.word_flow.proofs.Common.{bytes_eq-Decides, statement_names, IsStatementRow, words_inside}
 use Rattle.word_flow.proofs.Common.{written_names, ScratchWord, scratch_bit, bits_inside, Statement}
 use Rattle.word_flow.proofs.Common.{need_inside, length-map, ScratchBit, holds_kind, RoomsApart, []}
@@ -88,14 +89,6 @@ abbrev pub AllDiffer : List Whose → Type 0
 AllDiffer [] = Unit {0}
 AllDiffer (w ∷ ws) = Against w ws × AllDiffer ws
 
-or_first : (a b : Bool) → a ≡ true → (a || b) ≡ true
-or_first true b e = refl
-or_first false b e = cc
-
-or_second : (a b : Bool) → b ≡ true → (a || b) ≡ true
-or_second true b e = refl
-or_second false b e = e
-
 against_at : (x : Whose) (ws : List Whose) (k : ℕ) → Against x ws → k < length ws
     → (may_write x || may_write (whose_at ws k)) ≡ true → Differ x (whose_at ws k)
 against_at x [] k d lt = absurd (omega (arith, lt))
@@ -107,10 +100,10 @@ differ_at : (ws : List Whose) (j k : ℕ) → AllDiffer ws → j < length ws →
 differ_at [] j k d lj lk ne w = absurd (omega (arith, lj))
 differ_at (x ∷ ws) zero zero d lj lk ne w = absurd (ne refl)
 differ_at (x ∷ ws) zero (suc k) d lj lk ne w = against_at x ws k d.0 (omega (arith, lk))
-    (or_first (may_write x) (may_write (whose_at ws k)) w)
+    (or_left (may_write x) (may_write (whose_at ws k)) w)
 differ_at (x ∷ ws) (suc j) zero d lj lk ne w = turned x (whose_at ws j)
     (against_at x ws j d.0 (omega (arith, lj))
-    (or_second (may_write x) (may_write (whose_at ws j)) w))
+    (or_right (may_write x) (may_write (whose_at ws j)) w))
 differ_at (x ∷ ws) (suc j) (suc k) d lj lk ne w = differ_at ws j k d.1 (omega (arith, lj))
     (omega (arith, lk)) (λ e. ne (ap suc e)) w
 

@@ -1,11 +1,10 @@
 -- Programs that grow step by step.
-use Rattle.std.proofs.Common.{◌≡◌, ℕ, ◌+◌, ◌<◌, List, [], ◌∷◌, ◌++◌, map, take, length}
-use Rattle.std.proofs.Common.{slice_index_or, Option, Some, None, refl, sym, ap, ◌∙◌, subst}
-use Rattle.std.proofs.lemmas.List.{map-append, take_more}
+use Rattle.word_lower.proofs.Common.{◌≡◌, ℕ, ◌+◌, ◌<◌, List, [], ◌∷◌, ◌++◌, map, take, length}
+use Rattle.word_lower.proofs.Common.{slice_index_or, Option, Some, None, refl, sym, ap, ◌∙◌, subst}
+use Rattle.word_lower.proofs.Common.{take_more, Slot, Block, StepOf, AllParts, step_of, IsMade}
+use Rattle.std.proofs.lemmas.List.{map-append}
 use Rattle.loop_ir.specs.declared.ir.Step.{Step}
-use Rattle.loop_ir.specs.declared.names.Slot.{Slot}
-use Rattle.loop_ir.specs.Plain.{Block, StepOf, AllParts, AllStep, step_of}
-use Rattle.loop_laws.specs.Forms.{IsMade}
+use Rattle.loop_ir.specs.Plain.{AllStep}
 use Rattle.word_lower.specs.declared.shapes.ProgramLine.{ProgramLine}
 use Rattle.word_lower.specs.Places.{program_on}
 use Rattle.word_lower.specs.Lines.{lines_steps}

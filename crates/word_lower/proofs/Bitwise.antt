@@ -1,10 +1,8 @@
 -- Bit by bit, and all bits of a word, as numbers.
-use Rattle.std.proofs.Common.{◌≡◌, ℕ, suc, ◌+◌, ◌-◌, ◌*◌, ◌^◌, Bool, true, false, not, cond, refl, ap}
-use Rattle.std.proofs.Common.{sym, ◌∙◌, arith, min, max}
-use Rattle.std.specs.Prelude.{nat_lt, nat_le, ◌==◌, ◌&&◌, ◌||◌}
-use Rattle.std.proofs.lemmas.Bool.Decides.{nat_tests}
-use Rattle.bit_rows.specs.Bits.{majority}
-use Rattle.op_text.specs.Values.{differ, bit_by_bit}
+use Rattle.word_lower.proofs.Common.{◌≡◌, ℕ, suc, ◌+◌, ◌-◌, ◌*◌, ◌^◌, Bool, true, false, not, cond}
+use Rattle.word_lower.proofs.Common.{refl, ap, sym, ◌∙◌, arith, nat_lt, nat_le, ◌==◌, ◌&&◌, ◌||◌}
+use Rattle.word_lower.proofs.Common.{nat_tests, majority, differ, bit_by_bit}
+use Rattle.std.proofs.Common.{min, max}
 use Rattle.word_lower.proofs.Setting.{bit, number}
 use Rattle.word_lower.proofs.Lists.{by_bits}
 use Rattle.word_lower.proofs.Sums.{value_same, value_not, value_false, top_half}

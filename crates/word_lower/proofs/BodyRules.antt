@@ -1,22 +1,22 @@
 -- Bodies over places by their owners: their rounds keep the rules where their rows are in range.
-use Rattle.std.proofs.Common.{◌≡◌, ℕ, zero, suc, ◌+◌, ◌<◌, Bool, true, false, List, [], ◌∷◌}
-use Rattle.std.proofs.Common.{map, length, sym, ap, ◌∙◌, subst, inl, inr, arith}
-use Rattle.std.specs.Prelude.{◌&&◌, ◌==◌, nat_le}
-use Rattle.std.proofs.lemmas.Bool.{and_parts, eqb-true}
-use Rattle.loop_ir.specs.declared.ir.Place.{Place}
+use Rattle.word_lower.proofs.Common.{◌≡◌, ℕ, zero, suc, ◌+◌, ◌<◌, Bool, true, false, List, [], ◌∷◌}
+use Rattle.word_lower.proofs.Common.{map, length, sym, ap, ◌∙◌, subst, inl, inr, arith, ◌&&◌, ◌==◌}
+use Rattle.word_lower.proofs.Common.{nat_le, and_parts, eqb-true, Place, Spot, spot_in, nth_place}
+use Rattle.word_lower.proofs.Common.{IsOwn, is_state, HasCommands, Room, room_for, Owner, InRoom}
+use Rattle.word_lower.proofs.Common.{InCells, same_owner, Mark, Marked, extent, row_in, placed}
+use Rattle.word_lower.proofs.Common.{placed_body, IsOwned, RoomsApart, mark_at, HaveRows, write_at}
+use Rattle.word_lower.proofs.Common.{writes_once, alone_sub, most_is, nth_placed, placed_same}
 use Rattle.loop_ir.specs.Loops.{sub_value}
-use Rattle.loop_ir.specs.Spots.{Spot, spot_in, spot_at, nth_place, nth_spot, IsOwn, is_state}
+use Rattle.loop_ir.specs.Spots.{spot_at, nth_spot}
 use Rattle.loop_ir.specs.WellFormed.{IsOneValue}
-use Rattle.loop_ir.specs.Limits.{HasCommands, IsRound, IsHad, HasValues}
-use Rattle.loop_laws.specs.Rooms.{Room, room_for, Owner, InRoom, InCells, same_owner, Mark, Marked}
-use Rattle.loop_laws.specs.Rooms.{extent, row_in, placed, placed_body, IsOwned, RoomsApart}
+use Rattle.loop_ir.specs.Limits.{IsRound, IsHad, HasValues}
 use Rattle.loop_laws.specs.Rooms.{is_there, writes_fit}
 use Rattle.loop_laws.specs.Forms.{IsSlim, has_room, are_rows_first}
-use Rattle.loop_laws.proofs.Fitting.{mark_at, IsThere}
-use Rattle.loop_laws.proofs.Alike.{HaveRows, first_like, rows_first}
-use Rattle.loop_laws.proofs.Good.{there_is, write_at, writes_once, alone_sub, alone_once}
-use Rattle.loop_laws.proofs.EveryRound.{most_is, first, nth_placed, placed_same, below_map, own_spot}
-use Rattle.loop_laws.proofs.EveryRound.{owner_cases, owners_apart, owned_at, own_of}
+use Rattle.loop_laws.proofs.Fitting.{IsThere}
+use Rattle.loop_laws.proofs.Alike.{first_like, rows_first}
+use Rattle.loop_laws.proofs.Good.{there_is, alone_once}
+use Rattle.loop_laws.proofs.EveryRound.{first, below_map, own_spot, owner_cases, owners_apart}
+use Rattle.loop_laws.proofs.EveryRound.{owned_at, own_of}
 
 -- the place has an owner
 abbrev pub all_there : List Room → List Mark → Bool

@@ -1,15 +1,19 @@
 -- A test of a body, after which its commands do it wherever its rows lie.
-use Rattle.std.proofs.Common.{◌≡◌, ◌≢◌, ℕ, zero, suc, ◌+◌, ◌^◌, ◌<◌, ◌≤◌, Bool, true, false, cond}
-use Rattle.std.proofs.Common.{List, [], ◌∷◌, map, length, Option, Some, None, refl, sym, ap, ◌∙◌}
-use Rattle.std.proofs.Common.{subst, arith}
-use Rattle.std.specs.Prelude.{◌&&◌, ◌==◌, nat_le, if◌then◌else◌}
+use Rattle.word_lower.proofs.Common.{◌≡◌, ◌≢◌, ℕ, zero, suc, ◌+◌, ◌^◌, ◌<◌, ◌≤◌, Bool, true, false}
+use Rattle.word_lower.proofs.Common.{cond, List, [], ◌∷◌, map, length, Option, Some, None, refl}
+use Rattle.word_lower.proofs.Common.{sym, ap, ◌∙◌, subst, arith, ◌&&◌, ◌==◌, nat_le, if◌then◌else◌}
+use Rattle.word_lower.proofs.Common.{and_parts, eqb-true, Lit, IsGraph, lit_at, Place, StepOf}
+use Rattle.word_lower.proofs.Common.{AllParts, Single, Along, nth_place, is_state, HasCommands}
+use Rattle.word_lower.proofs.Common.{Room, room_for, Owner, same_owner, Mark, Marked, placed}
+use Rattle.word_lower.proofs.Common.{placed_body, placed_steps, RoomsApart, steps_fit, IsMade}
+use Rattle.word_lower.proofs.Common.{mark_at, HaveRows, write_at, writes_once, alone_sub, most_is}
+use Rattle.word_lower.proofs.Common.{nth_placed, placed_same}
 use Rattle.std.specs.List.{AllByRecursion, list_all}
-use Rattle.std.proofs.lemmas.Bool.{and_parts, and_from, eqb-true}
+use Rattle.std.proofs.lemmas.Bool.{and_from}
 use Rattle.dram_model.specs.declared.address.Cell.TheVariants.{D}
 use Rattle.dram_model.specs.declared.address.Line.{Line}
-use Rattle.mig_graph.specs.declared.Lit.{Lit}
-use Rattle.mig_graph.specs.Graph.{IsGraph, size_of}
-use Rattle.mig_graph.specs.Outputs.{AreNamed, lit_at}
+use Rattle.mig_graph.specs.Graph.{size_of}
+use Rattle.mig_graph.specs.Outputs.{AreNamed}
 use Rattle.row_alloc.specs.declared.body.Held.{Held}
 use Rattle.row_alloc.specs.declared.body.OutRow.{OutRow}
 use Rattle.row_alloc.specs.Body.{FitBody}
@@ -21,23 +25,14 @@ use Rattle.row_alloc.specs.Rows.{out_at}
 use Rattle.row_alloc.specs.Symbolic.{Symbols, sym_read}
 use Rattle.row_alloc.proofs.Literals.{is_literal, is-literal}
 use Rattle.row_alloc.proofs.HeldChecked.{held-does}
-use Rattle.loop_ir.specs.declared.ir.Place.{Place}
-use Rattle.loop_ir.specs.Plain.{StepOf, AllParts}
-use Rattle.loop_ir.specs.Plain.StepOf.{Single, Along, Flowed}
-use Rattle.loop_ir.specs.Spots.{nth_place, is_state}
+use Rattle.loop_ir.specs.Plain.StepOf.{Flowed}
 use Rattle.loop_ir.specs.Outputs.{AreRows}
 use Rattle.loop_ir.specs.States.{row_count, enters, leaves}
 use Rattle.loop_ir.specs.Costs.{plain_cost}
-use Rattle.loop_ir.specs.Limits.{HasCommands}
 use Rattle.loop_ir.proofs.Outs.{one-rows}
-use Rattle.loop_laws.specs.Rooms.{Room, room_for, Owner, same_owner, Mark, Marked, placed}
-use Rattle.loop_laws.specs.Rooms.{placed_body, placed_steps, RoomsApart, all_fit, body_fits}
-use Rattle.loop_laws.specs.Rooms.{steps_fit}
-use Rattle.loop_laws.specs.Forms.{IsMade}
-use Rattle.loop_laws.proofs.Fitting.{mark_at}
-use Rattle.loop_laws.proofs.Alike.{HaveRows, state_like, enters_like, leaves_like, plain_like}
-use Rattle.loop_laws.proofs.Good.{none_at, write_at, writes_once, alone_sub}
-use Rattle.loop_laws.proofs.EveryRound.{most_is, nth_placed, placed_same}
+use Rattle.loop_laws.specs.Rooms.{all_fit, body_fits}
+use Rattle.loop_laws.proofs.Alike.{state_like, enters_like, leaves_like, plain_like}
+use Rattle.loop_laws.proofs.Good.{none_at}
 use Rattle.word_lower.specs.Shapes.{are_own, are_below}
 use Rattle.word_lower.proofs.Own.{own_graph}
 use Rattle.word_lower.proofs.LikeTemplates.{all_below}

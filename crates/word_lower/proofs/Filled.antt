@@ -1,15 +1,9 @@
 -- The kinds that fill the forms of each shape, and places of these kinds.
-use Rattle.std.proofs.Common.{◌≡◌, ◌⊎◌, inl, inr, ℕ, List, [], ◌∷◌, map, Some}
-use Rattle.std.proofs.Common.{refl, ap}
-use Rattle.op_text.specs.declared.tree.Kind.{Kind}
-use Rattle.op_text.specs.declared.tree.Kind.TheVariants.{Word, Bit}
+use Rattle.word_lower.proofs.Common.{◌≡◌, ◌⊎◌, inl, inr, ℕ, List, [], ◌∷◌, map, Some, refl, ap}
+use Rattle.word_lower.proofs.Common.{Kind, Word, Bit, Signature, forms, filled, Space, Slot}
+use Rattle.op_text.specs.WordOps.{form, signature_forms, of_one, of_two, word_to, words_to}
 use Rattle.op_text.specs.declared.word_ops.WordOp.TheVariants as op
-use Rattle.op_text.specs.declared.word_ops.Signature.{Signature}
 use Rattle.op_text.specs.declared.word_ops.Signature.TheVariants as shape
-use Rattle.op_text.specs.WordOps.{form, forms, signature_forms, filled, of_one, of_two, word_to}
-use Rattle.op_text.specs.WordOps.{words_to}
-use Rattle.loop_ir.specs.declared.ir.Space.{Space}
-use Rattle.loop_ir.specs.declared.names.Slot.{Slot}
 use Rattle.word_lower.proofs.Setting.{taken}
 use Rattle.word_lower.proofs.Pieces.{slot}
 

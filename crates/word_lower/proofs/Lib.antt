@@ -1,3 +1,4 @@
+pub mod Common
 pub mod Setting
 pub mod Sums
 pub mod Lists

@@ -1,15 +1,8 @@
 -- Bodies that are built by a template are those of the template.
-use Rattle.std.proofs.Common.{◌≡◌, ℕ, zero, suc, ◌+◌, ◌<◌, true, List}
-use Rattle.std.proofs.Common.{[], ◌∷◌, length, refl, arith}
-use Rattle.std.proofs.lemmas.Bool.Decides.{nat_tests}
-use Rattle.mig_graph.specs.declared.Lit.{Lit}
-use Rattle.mig_graph.specs.declared.Node.{Node}
-use Rattle.mig_graph.specs.Graph.{Graph, IsGraph}
-use Rattle.mig_graph.specs.Outputs.{lit_at}
+use Rattle.word_lower.proofs.Common.{◌≡◌, ℕ, zero, suc, ◌+◌, ◌<◌, true, List, [], ◌∷◌, length, refl}
+use Rattle.word_lower.proofs.Common.{arith, nat_tests, Lit, Node, Graph, IsGraph, lit_at, Place}
+use Rattle.word_lower.proofs.Common.{Block, IsMade}
 use Rattle.row_alloc.specs.declared.body.BodyCmd.{BodyCmd}
-use Rattle.loop_ir.specs.declared.ir.Place.{Place}
-use Rattle.loop_ir.specs.Plain.{Block}
-use Rattle.loop_laws.specs.Forms.{IsMade}
 use Rattle.word_lower.specs.Places.{template_at}
 use Rattle.word_lower.specs.Shapes.{are_below}
 

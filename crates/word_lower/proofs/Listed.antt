@@ -1,9 +1,7 @@
 -- Lists in which something may be wanting.
-use Rattle.std.proofs.Common.{◌≡◌, ℕ, zero, suc, ◌<◌, ◌≤◌, List, [], ◌∷◌, length, refl, arith}
+use Rattle.word_lower.proofs.Common.{◌≡◌, ℕ, zero, suc, ◌<◌, ◌≤◌, List, [], ◌∷◌, length, refl}
+use Rattle.word_lower.proofs.Common.{arith, Word, Source, Slot}
 use Rattle.std.specs.Prelude.{slice_index_or}
-use Rattle.op_text.specs.declared.tree.Kind.TheVariants.{Word}
-use Rattle.loop_ir.specs.declared.ir.Space.TheVariants.{Source}
-use Rattle.loop_ir.specs.declared.names.Slot.{Slot}
 use Rattle.word_lower.specs.Places.{slot_at}
 
 -- the slot of a number, and where there is none

@@ -1,11 +1,11 @@
 -- The number that bits spell, by their list and by their positions.
-use Rattle.std.proofs.Common.{◌≡◌, ℕ, zero, suc, ◌+◌, ◌*◌, ◌/◌, ◌%◌, Bool, List, []}
-use Rattle.std.proofs.Common.{◌∷◌, map, refl, sym, ap, ◌∙◌, arith}
-use Rattle.std.specs.Prelude.{◌==◌, count_by, cond}
+use Rattle.word_lower.proofs.Common.{◌≡◌, ℕ, zero, suc, ◌+◌, ◌*◌, ◌/◌, ◌%◌, Bool, List, [], ◌∷◌}
+use Rattle.word_lower.proofs.Common.{map, refl, sym, ap, ◌∙◌, arith, ◌==◌, nat_tests, value, bits}
+use Rattle.word_lower.proofs.Common.{bit_by_bit}
+use Rattle.std.specs.Prelude.{count_by, cond}
 use Rattle.std.specs.List.{range_with_len}
-use Rattle.std.proofs.lemmas.Bool.Decides.{nat_tests}
 use Rattle.std.proofs.lemmas.List.Sums.{sum_by-cons}
-use Rattle.op_text.specs.Values.{value, bits, both, bit_by_bit, ones_of}
+use Rattle.op_text.specs.Values.{both, ones_of}
 use Rattle.word_lower.proofs.Setting.{bit, number}
 use Rattle.word_lower.proofs.Sums.{value_same, value_low}
 

@@ -1,29 +1,17 @@
 -- Where the arguments fill a form of an operation, its loop program does it, keeps its ceiling, and
 -- passes the tests.
-use Rattle.std.proofs.Common.{◌≡◌, ℕ, suc, ◌+◌, ◌<◌, ◌≤◌, true, false, List, [], ◌∷◌, map}
-use Rattle.std.proofs.Common.{Some, refl, sym, ap, ◌∙◌, subst, arith}
-use Rattle.op_text.specs.declared.tree.Kind.{Kind}
-use Rattle.op_text.specs.declared.tree.Kind.TheVariants.{Word, Bit}
-use Rattle.op_text.specs.declared.word_ops.WordOp.{WordOp}
-use Rattle.op_text.specs.declared.word_ops.WordOp.TheVariants as op
-use Rattle.op_text.specs.declared.word_ops.Signature.{Signature}
-use Rattle.op_text.specs.declared.word_ops.Signature.TheVariants as shape
-use Rattle.op_text.specs.WordOps.{row_of, forms, filled}
-use Rattle.op_text.specs.Values.{bits, value, op_value}
-use Rattle.op_text.specs.Meaning.{width}
-use Rattle.op_text.specs.Scratch.{bits_inside}
-use Rattle.op_text.specs.Costs.{op_ceiling}
+use Rattle.word_lower.proofs.Common.{◌≡◌, ℕ, suc, ◌+◌, ◌<◌, ◌≤◌, true, false, List, [], ◌∷◌, map}
+use Rattle.word_lower.proofs.Common.{Some, refl, sym, ap, ◌∙◌, subst, arith, Kind, Word, Bit}
+use Rattle.word_lower.proofs.Common.{WordOp, Signature, row_of, forms, filled, bits, value}
+use Rattle.word_lower.proofs.Common.{op_value, width, bits_inside, op_ceiling, ScratchBit, Slot}
+use Rattle.word_lower.proofs.Common.{Block, StepOf, all_rounds, Spot, Spots, spot_in, after_rounds}
+use Rattle.word_lower.proofs.Common.{is_state, turn_cost, slot_spot, slot_bits, steps_fit}
+use Rattle.word_lower.proofs.Common.{placed_steps}
 use Rattle.row_alloc.specs.Symbolic.{sense_three, first_node}
-use Rattle.loop_ir.specs.declared.ir.Space.TheVariants.{ScratchBit}
-use Rattle.loop_ir.specs.declared.names.Slot.{Slot}
-use Rattle.loop_ir.specs.Plain.{Block, StepOf}
-use Rattle.loop_ir.specs.Loops.{all_rounds}
-use Rattle.loop_ir.specs.Spots.{Spot, Spots, spot_in, after_rounds, is_state}
-use Rattle.loop_ir.specs.Costs.{turn_cost}
-use Rattle.loop_ir.specs.Lowered.{slot_spot, slot_bits}
-use Rattle.loop_laws.specs.Rooms.{steps_fit, placed_steps}
 use Rattle.loop_laws.specs.Forms.{is_short, keeps_states}
 use Rattle.loop_laws.proofs.Summed.{steps_sum}
+use Rattle.op_text.specs.declared.word_ops.WordOp.TheVariants as op
+use Rattle.op_text.specs.declared.word_ops.Signature.TheVariants as shape
 use Rattle.word_lower.specs.Places.{program_on}
 use Rattle.word_lower.specs.Programs.{program, is_linear}
 use Rattle.word_lower.specs.Shapes.{owners_of}

@@ -1,27 +1,16 @@
 -- Each operation's loop program gives its value.
-use Rattle.std.proofs.Common.{◌≡◌, ℕ, suc, ◌+◌, ◌<◌, Bool, true, false, not, cond, List, []}
-use Rattle.std.proofs.Common.{◌∷◌, refl, sym, ap, ◌∙◌, arith}
-use Rattle.std.specs.Prelude.{nat_lt}
-use Rattle.bit_rows.specs.Bits.{majority}
+use Rattle.word_lower.proofs.Common.{◌≡◌, ℕ, suc, ◌+◌, ◌<◌, Bool, true, false, not, cond, List, []}
+use Rattle.word_lower.proofs.Common.{◌∷◌, refl, sym, ap, ◌∙◌, arith, nat_lt, majority, Kind, Word}
+use Rattle.word_lower.proofs.Common.{Bit, WordOp, bits_inside, row_of, width, ScratchBit, Cells}
+use Rattle.word_lower.proofs.Common.{Block, StepOf, Single, Along, round_at, all_rounds, Spot}
+use Rattle.word_lower.proofs.Common.{Spots, set_spot, after_round, after_rounds, Mark, InRoom}
+use Rattle.word_lower.proofs.Common.{InCells, placed_body, set_same, set_other}
 use Rattle.mig_graph.specs.Graph.{values_from}
-use Rattle.op_text.specs.declared.tree.Kind.{Kind}
-use Rattle.op_text.specs.declared.tree.Kind.TheVariants.{Word, Bit}
-use Rattle.op_text.specs.declared.word_ops.WordOp.{WordOp}
-use Rattle.op_text.specs.declared.word_ops.WordOp.TheVariants as op
-use Rattle.op_text.specs.Scratch.{bits_inside}
-use Rattle.op_text.specs.WordOps.{row_of}
-use Rattle.op_text.specs.Meaning.{width}
-use Rattle.loop_ir.specs.declared.ir.Space.TheVariants.{ScratchBit, Cells}
-use Rattle.loop_ir.specs.declared.ir.Sub.TheVariants as sub
-use Rattle.loop_ir.specs.Plain.{Block, StepOf}
-use Rattle.loop_ir.specs.Plain.StepOf.{Single, Along}
-use Rattle.loop_ir.specs.Loops.{round_at, all_rounds}
-use Rattle.loop_ir.specs.Spots.{Spot, Spots, set_spot, after_round, after_rounds}
 use Rattle.loop_ir.specs.declared.ir.Sub.{Sub}
-use Rattle.loop_laws.specs.Rooms.{Mark, InRoom, InCells, placed_body}
-use Rattle.loop_laws.proofs.Same.{set_same, set_other}
-use Rattle.word_lower.specs.Places.{scratch_bit, cells}
 use Rattle.row_alloc.specs.declared.known_held.TheConstants.{AGREE}
+use Rattle.op_text.specs.declared.word_ops.WordOp.TheVariants as op
+use Rattle.loop_ir.specs.declared.ir.Sub.TheVariants as sub
+use Rattle.word_lower.specs.Places.{scratch_bit, cells}
 use Rattle.word_lower.specs.Programs.{off, joined, ordered}
 use Rattle.word_lower.specs.Programs.{is_linear}
 use Rattle.word_lower.proofs.Setting.{value_of, bit, number, operation, Slots, rooms_for, steps_for, row}

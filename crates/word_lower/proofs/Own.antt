@@ -1,17 +1,14 @@
 -- Templates whose nodes are as `Mig` keeps them.
-use Rattle.std.proofs.Common.{◌≡◌, ◌≢◌, ℕ, zero, suc, ◌+◌, ◌<◌, ◌≤◌, ◌^◌, Bool, true, not}
-use Rattle.std.proofs.Common.{List, [], ◌∷◌, ◌++◌, length, take, refl, sym, ap, ◌∙◌, subst, inl}
-use Rattle.std.proofs.Common.{arith}
+use Rattle.word_lower.proofs.Common.{◌≡◌, ◌≢◌, ℕ, zero, suc, ◌+◌, ◌<◌, ◌≤◌, ◌^◌, Bool, true, not}
+use Rattle.word_lower.proofs.Common.{List, [], ◌∷◌, ◌++◌, length, take, refl, sym, ap, ◌∙◌, subst}
+use Rattle.word_lower.proofs.Common.{inl, arith, nat_tests, take_more, Lit, Node, Graph, IsGraph}
 use Rattle.std.specs.List.{list_any}
 use Rattle.std.proofs.lemmas.Bool.{eq-eqb}
-use Rattle.std.proofs.lemmas.Bool.Decides.{nat_tests}
-use Rattle.std.proofs.lemmas.List.{take_more, get_or-take, length-take-le}
+use Rattle.std.proofs.lemmas.List.{get_or-take, length-take-le}
 use Rattle.std.proofs.lemmas.List.Folds.{list_any_at}
 use mathlib.Core.Bool.{beq}
-use Rattle.mig_graph.specs.declared.Lit.{Lit}
-use Rattle.mig_graph.specs.declared.Node.{Node}
 use Rattle.mig_graph.specs.Literals.{SameThree, inversions}
-use Rattle.mig_graph.specs.Graph.{Graph, IsGraph, IsSorted, AreSorted, IsFresh, node_at, no_node}
+use Rattle.mig_graph.specs.Graph.{IsSorted, AreSorted, IsFresh, node_at, no_node}
 use Rattle.mig_graph.proofs.InOrder.{sorted-same, sorted-three}
 use Rattle.loop_ir.specs.Same.{same_lit, same_node}
 use Rattle.word_lower.specs.Shapes.{is_own, are_own}

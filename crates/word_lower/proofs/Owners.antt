@@ -1,8 +1,6 @@
 -- The places of arguments, by their numbers.
-use Rattle.std.proofs.Common.{◌≡◌, ℕ, zero, suc, ◌<◌, ◌≤◌, List, [], ◌∷◌, length, slice_index_or}
-use Rattle.std.proofs.Common.{Some, refl, ap, ◌∙◌, arith}
-use Rattle.loop_ir.specs.declared.names.Slot.{Slot}
-use Rattle.loop_ir.specs.Statements.{Slots}
+use Rattle.word_lower.proofs.Common.{◌≡◌, ℕ, zero, suc, ◌<◌, ◌≤◌, List, [], ◌∷◌, length}
+use Rattle.word_lower.proofs.Common.{slice_index_or, Some, refl, ap, ◌∙◌, arith, Slot, Slots}
 use Rattle.word_lower.specs.Places.{AreAt, scratch_bit}
 use Rattle.word_lower.specs.Shapes.{following}
 

@@ -1,13 +1,11 @@
 -- Loop programs that go over all positions: an invariant of their bodies, and what they keep.
-use Rattle.std.proofs.Common.{◌≡◌, ℕ, zero, suc, ◌+◌, ◌<◌, ◌≤◌, Bool, List, [], ◌∷◌, ◌++◌, refl}
-use Rattle.std.proofs.Common.{true, sym, ap, ◌∙◌, subst, ⊎_elim, arith}
+use Rattle.word_lower.proofs.Common.{◌≡◌, ℕ, zero, suc, ◌+◌, ◌<◌, ◌≤◌, Bool, List, [], ◌∷◌, ◌++◌}
+use Rattle.word_lower.proofs.Common.{refl, true, sym, ap, ◌∙◌, subst, arith, WordOp, Block, StepOf}
+use Rattle.word_lower.proofs.Common.{Along, round_at, all_rounds, Spot, Spots, set_spot}
+use Rattle.word_lower.proofs.Common.{after_round, after_rounds, is_state, set_same, set_other}
+use Rattle.std.proofs.Common.{⊎_elim}
 use Rattle.std.proofs.lemmas.Bool.{cases_eq}
-use Rattle.op_text.specs.declared.word_ops.WordOp.{WordOp}
-use Rattle.loop_ir.specs.Plain.{Block, StepOf}
-use Rattle.loop_ir.specs.Plain.StepOf.{Along}
-use Rattle.loop_ir.specs.Loops.{round_at, rounds, all_rounds}
-use Rattle.loop_ir.specs.Spots.{Spot, Spots, set_spot, after_round, after_rounds, is_state}
-use Rattle.loop_laws.proofs.Same.{set_same, set_other}
+use Rattle.loop_ir.specs.Loops.{rounds}
 use Rattle.word_lower.specs.Places.{scratch_bit, cells}
 use Rattle.word_lower.proofs.Setting.{value_of, number, Slots, row, AreSlots}
 use Rattle.word_lower.proofs.Setting.{IsElsewhere, Gives}

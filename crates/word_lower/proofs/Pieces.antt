@@ -1,19 +1,12 @@
 -- The places of a word statement lie apart: its rooms do, and its loop program's names.
-use Rattle.std.proofs.Common.{◌≡◌, ◌⊎◌, inl, inr, ℕ, zero, suc, ◌+◌, ◌-◌, ◌*◌, ◌<◌, ◌≤◌}
-use Rattle.std.proofs.Common.{true, false, List, [], ◌∷◌, ◌++◌, map, length, refl, sym, ap, ◌∙◌}
-use Rattle.std.proofs.Common.{subst, arith}
+use Rattle.word_lower.proofs.Common.{◌≡◌, ◌⊎◌, inl, inr, ℕ, zero, suc, ◌+◌, ◌-◌, ◌*◌, ◌<◌, ◌≤◌}
+use Rattle.word_lower.proofs.Common.{true, false, List, [], ◌∷◌, ◌++◌, map, length, refl, sym, ap}
+use Rattle.word_lower.proofs.Common.{◌∙◌, subst, arith, Kind, Word, Bit, width, Space, Result}
+use Rattle.word_lower.proofs.Common.{Source, ScratchBit, ScratchWord, Cells, Slot, Spot, spot_in}
+use Rattle.word_lower.proofs.Common.{IsOwn, is_state, holds_kind, Room, room_at, row_in, extent}
+use Rattle.word_lower.proofs.Common.{RoomsApart}
 use Rattle.std.proofs.lemmas.Bool.{cases_lt}
 use Rattle.std.proofs.lemmas.List.{length-map, length-append}
-use Rattle.op_text.specs.declared.tree.Kind.{Kind}
-use Rattle.op_text.specs.declared.tree.Kind.TheVariants.{Word, Bit}
-use Rattle.op_text.specs.Meaning.{width}
-use Rattle.loop_ir.specs.declared.ir.Space.{Space}
-use Rattle.loop_ir.specs.declared.ir.Space.TheVariants.{Result, Source, ScratchBit, ScratchWord}
-use Rattle.loop_ir.specs.declared.ir.Space.TheVariants.{Cells}
-use Rattle.loop_ir.specs.declared.names.Slot.{Slot}
-use Rattle.loop_ir.specs.Spots.{Spot, spot_in, IsOwn, is_state}
-use Rattle.loop_ir.specs.Statements.{holds_kind}
-use Rattle.loop_laws.specs.Rooms.{Room, room_at, row_in, extent, RoomsApart}
 pub use Rattle.word_lower.specs.Places.{slot_at}
 use Rattle.word_lower.specs.Places.{rows_of, room_of, scratch_bit}
 use Rattle.word_lower.proofs.Setting.{scratch_from, rooms_of, Slots, row, SlotsApart, IsElsewhere}

@@ -1,17 +1,11 @@
 -- When a loop program does a word operation: the places of its names, and what it leaves.
+use Rattle.word_lower.proofs.Common.{Kind, WordOp, Signature, row_of, op_value, bits_inside, Slot}
+use Rattle.word_lower.proofs.Common.{StepOf, Block, Spot, Spots, spot_in, is_state, Room}
+use Rattle.word_lower.proofs.Common.{placed_steps}
 use Rattle.std.specs.Prelude.{◌≡◌, ℕ, zero, suc, ◌+◌, ◌*◌, ◌^◌, ◌<◌, Bool, true, false, List, []}
 use Rattle.std.specs.Prelude.{◌∷◌, ◌++◌, map}
-use Rattle.op_text.specs.declared.tree.Kind.{Kind}
-use Rattle.op_text.specs.declared.word_ops.WordOp.{WordOp}
-use Rattle.op_text.specs.declared.word_ops.Signature.{Signature}
+use Rattle.op_text.specs.Values.{bit_number}
 use Rattle.op_text.specs.declared.word_ops.Signature.TheVariants as shape
-use Rattle.op_text.specs.WordOps.{row_of}
-use Rattle.op_text.specs.Values.{bit_number, op_value}
-use Rattle.op_text.specs.Scratch.{bits_inside}
-use Rattle.loop_ir.specs.declared.names.Slot.{Slot}
-use Rattle.loop_ir.specs.Plain.{StepOf, Block}
-use Rattle.loop_ir.specs.Spots.{Spot, Spots, spot_in, is_state}
-use Rattle.loop_laws.specs.Rooms.{Room, placed_steps}
 use Rattle.word_lower.specs.Places.{scratch_bit, room_of}
 use Rattle.word_lower.specs.Programs.{program}
 

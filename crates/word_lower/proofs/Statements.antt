@@ -1,42 +1,31 @@
 -- An operation's loop program does the statement.
-use Rattle.std.proofs.Common.{◌≡◌, inl, inr, ℕ, zero, suc, ◌+◌, ◌*◌, ◌/◌, ◌<◌, Bool, true}
-use Rattle.std.proofs.Common.{false, List, [], ◌∷◌, ◌++◌, map, length, Option, Some, None, refl}
-use Rattle.std.proofs.Common.{sym, ap}
-use Rattle.std.proofs.Common.{◌∙◌, subst, arith}
-use Rattle.std.specs.Prelude.{◌||◌, bytes_eq, unwrap_or, if◌then◌else◌}
+use Rattle.word_lower.proofs.Common.{◌≡◌, inl, inr, ℕ, zero, suc, ◌+◌, ◌*◌, ◌/◌, ◌<◌, Bool, true}
+use Rattle.word_lower.proofs.Common.{false, List, [], ◌∷◌, ◌++◌, map, length, Option, Some, None}
+use Rattle.word_lower.proofs.Common.{refl, sym, ap, ◌∙◌, subst, arith, ◌||◌, if◌then◌else◌, Kind}
+use Rattle.word_lower.proofs.Common.{Word, Bit, WordOp, bits, value, op_value, forms, filled, width}
+use Rattle.word_lower.proofs.Common.{bits_inside, op_ceiling, Space, Result, Source, ScratchBit}
+use Rattle.word_lower.proofs.Common.{ScratchWord, Cells, Slot, Block, StepOf, AllParts, all_rounds}
+use Rattle.word_lower.proofs.Common.{Spot, Spots, spot_in, after_rounds, is_state, Slots}
+use Rattle.word_lower.proofs.Common.{holds_kind, slot_spot, slot_bits, turn_cost, Room, room_at}
+use Rattle.word_lower.proofs.Common.{IsOwned, extent, placed_steps, IsMade, HaveRows}
+use Rattle.std.proofs.lemmas.Bool.{or_left, or_right}
+use Rattle.std.specs.Prelude.{bytes_eq, unwrap_or}
 use Rattle.std.specs.Option.{option_to_list}
 use Rattle.std.proofs.lemmas.Nat.{div-mul-add}
 use Rattle.std.proofs.lemmas.Slice.Eq.{bytes_eq-Decides}
-use Rattle.op_text.specs.declared.tree.Kind.{Kind}
-use Rattle.op_text.specs.declared.tree.Kind.TheVariants.{Word, Bit}
-use Rattle.op_text.specs.declared.word_ops.WordOp.{WordOp}
-use Rattle.op_text.specs.Values.{bits, value, op_value}
-use Rattle.op_text.specs.declared.word_ops.WordOp.TheVariants as op
-use Rattle.op_text.specs.WordOps.{forms, filled, second_kind}
+use Rattle.op_text.specs.WordOps.{second_kind}
 use Rattle.op_text.specs.Language.{Statement, Compute}
 use Rattle.op_text.specs.Rules.{is_among}
-use Rattle.op_text.specs.Meaning.{NameValue, width, number, args_width, computed, after_statement}
-use Rattle.op_text.specs.Scratch.{bits_inside}
-use Rattle.op_text.specs.Costs.{op_ceiling}
-use Rattle.loop_ir.specs.declared.ir.Space.{Space}
-use Rattle.loop_ir.specs.declared.ir.Space.TheVariants.{Result, Source, ScratchBit, ScratchWord}
-use Rattle.loop_ir.specs.declared.ir.Space.TheVariants.{Cells}
-use Rattle.loop_ir.specs.declared.names.Slot.{Slot}
-use Rattle.loop_ir.specs.Plain.{Block, StepOf, AllParts}
-use Rattle.loop_ir.specs.Loops.{all_rounds}
-use Rattle.loop_ir.specs.Spots.{Spot, Spots, spot_in, after_rounds, is_state}
-use Rattle.loop_ir.specs.Statements.{Slots, holds_kind, statement_names, IsPlaced, HaveKinds}
-use Rattle.loop_ir.specs.Statements.{SecondMeets, ComputeMeets}
-use Rattle.loop_ir.specs.Lowered.{slot_spot, slot_bits, HoldsAt, Holds, IsStatementRow}
-use Rattle.loop_ir.specs.Lowered.{Does, IsLowered}
-use Rattle.loop_ir.specs.Lowered as l
-use Rattle.loop_ir.specs.Costs.{turn_cost}
-use Rattle.loop_laws.specs.Rooms.{Room, room_at, IsOwned, extent, placed_steps}
-use Rattle.loop_laws.specs.Forms.{IsMade}
+use Rattle.op_text.specs.Meaning.{NameValue, number, args_width, computed, after_statement}
+use Rattle.loop_ir.specs.Statements.{statement_names, IsPlaced, HaveKinds, SecondMeets}
+use Rattle.loop_ir.specs.Statements.{ComputeMeets}
+use Rattle.loop_ir.specs.Lowered.{HoldsAt, Holds, IsStatementRow, Does, IsLowered}
 use Rattle.loop_laws.proofs.Summed.{sum_is}
-use Rattle.loop_laws.proofs.Alike.{HaveRows, InRooms, rounds_cost_like}
+use Rattle.loop_laws.proofs.Alike.{InRooms, rounds_cost_like}
 use Rattle.loop_laws.proofs.EveryRound.{marks_are_enough, rooms_row}
 use Rattle.loop_laws.proofs.Compile.{made_compile}
+use Rattle.op_text.specs.declared.word_ops.WordOp.TheVariants as op
+use Rattle.loop_ir.specs.Lowered as l
 use Rattle.word_lower.specs.Places.{scratch_bit, AreAt, program_on}
 use Rattle.word_lower.specs.Forms.{IsWritten}
 use Rattle.word_lower.specs.Programs.{program, is_linear}
@@ -90,14 +79,6 @@ scratch_at free zero j lt = absurd (omega arith)
 scratch_at free (suc count) zero lt = let e : free ≡ free + 0 = omega arith in ap scratch_bit e
 scratch_at free (suc count) (suc j) lt = let e : free + 1 + j ≡ free + suc j = omega arith in
     scratch_at (free + 1) count j (omega arith) ∙ ap scratch_bit e
-
-pub or_left : (a b : Bool) → a ≡ true → (a || b) ≡ true
-or_left true b e = refl
-or_left false b e = cc
-
-pub or_right : (a b : Bool) → b ≡ true → (a || b) ≡ true
-or_right true b e = refl
-or_right false b e = e
 
 -- one name is found equal to itself
 pub same_name : (a b : List ℕ) → a ≡ b → bytes_eq a b ≡ true

@@ -1,12 +1,9 @@
 -- Loops with a carry, as numbers.
-use Rattle.std.proofs.Common.{◌≡◌, ℕ, zero, suc, ◌+◌, ◌-◌, ◌*◌, ◌/◌, ◌^◌, ◌%◌, ◌<◌, ◌≤◌, Bool, true}
-use Rattle.std.proofs.Common.{false, not, refl, sym, ap, ◌∙◌, arith}
-use Rattle.std.specs.Prelude.{nat_lt}
-use Rattle.std.proofs.lemmas.Bool.Decides.{nat_tests}
+use Rattle.word_lower.proofs.Common.{◌≡◌, ℕ, zero, suc, ◌+◌, ◌-◌, ◌*◌, ◌/◌, ◌^◌, ◌%◌, ◌<◌, ◌≤◌}
+use Rattle.word_lower.proofs.Common.{Bool, true, false, not, refl, sym, ap, ◌∙◌, arith, nat_lt}
+use Rattle.word_lower.proofs.Common.{nat_tests, majority, differ}
 use Rattle.std.proofs.lemmas.Nat.{mod-mul-add}
 use Rattle.std.proofs.Math.Nat.{pow-suc}
-use Rattle.bit_rows.specs.Bits.{majority}
-use Rattle.op_text.specs.Values.{differ}
 use Rattle.word_lower.proofs.Setting.{bit, number}
 
 abbrev pub digits : (ℕ → ℕ) → ℕ → ℕ

@@ -1,4 +1,4 @@
-use Rattle.std.proofs.Common.{arith}
+use Rattle.mig_rewrite.proofs.Common.{arith}
 use Rattle.mig_rewrite.proofs.Keeping.{keeps-twice}
 use Rattle.mig_rewrite.proofs.reduced.Goals as goal
 

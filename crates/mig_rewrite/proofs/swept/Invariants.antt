@@ -1,5 +1,4 @@
-use Rattle.std.proofs.Common.{◌≤◌, length}
-use Rattle.mig_graph.specs.Outputs.{AreNamed, KeepsOutputs}
+use Rattle.mig_rewrite.proofs.Common.{◌≤◌, length, AreNamed, KeepsOutputs}
 use Rattle.mig_rewrite.proofs.swept.Given as goal
 
 -- the graph keeps the outputs

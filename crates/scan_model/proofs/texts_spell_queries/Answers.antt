@@ -1,5 +1,4 @@
-use Rattle.std.proofs.Common.{[]}
-use Rattle.grammar.proofs.Found.{syntax_is_the_grammars}
+use Rattle.scan_model.proofs.Common.{[], syntax_is_the_grammars}
 use Rattle.scan_model.specs.Texts.{none_begun, queries}
 use Rattle.scan_model.specs.TextLaws.{IsText}
 use Rattle.scan_model.proofs.Accepted.{accepted, once}

@@ -1,22 +1,16 @@
 -- Each body has rows for its outputs, and its commands do it with these.
-use Rattle.std.proofs.Common.{◌≡◌, ◌≢◌, ℕ, zero, suc, ◌+◌, ◌<◌, ◌≤◌, Bool, true, false, List, []}
-use Rattle.std.proofs.Common.{◌∷◌, ◌++◌, length, Option, Some, None, refl, subst, ⊎_elim, arith}
-use Rattle.std.specs.Prelude.{◌==◌, ◌&&◌, IfSome, IfNone, slice_index_or}
-use Rattle.std.proofs.lemmas.Bool.{and_parts, cases_eq, eqb-true}
-use Rattle.std.proofs.lemmas.Bool.Decides.{nat_tests}
-use Rattle.mig_graph.specs.declared.Lit.{Lit}
-use Rattle.mig_graph.specs.Outputs.{lit_at}
+use Rattle.uprog_gen.proofs.Common.{◌≡◌, ℕ, zero, suc, ◌+◌, ◌<◌, ◌≤◌, Bool, true, false, List, []}
+use Rattle.uprog_gen.proofs.Common.{◌∷◌, ◌++◌, length, Option, Some, None, refl, subst, ⊎_elim}
+use Rattle.uprog_gen.proofs.Common.{arith, ◌==◌, ◌&&◌, slice_index_or, and_parts, cases_eq}
+use Rattle.uprog_gen.proofs.Common.{eqb-true, nat_tests, Lit, lit_at, Space, Sub, Place, Block}
+use Rattle.uprog_gen.proofs.Common.{nth_place, row_count, enters, leaves, IsSmall}
+use Rattle.std.proofs.Common.{◌≢◌}
+use Rattle.std.specs.Prelude.{IfSome, IfNone}
 use Rattle.row_alloc.specs.declared.body.OutRow.{OutRow}
 use Rattle.row_alloc.specs.Held.{DoesHeld}
-use Rattle.loop_ir.specs.declared.ir.Space.{Space}
-use Rattle.loop_ir.specs.declared.ir.Sub.{Sub}
-use Rattle.loop_ir.specs.declared.ir.Place.{Place}
-use Rattle.loop_ir.specs.Plain.{Block}
-use Rattle.loop_ir.specs.Spots.{same_space, nth_place}
+use Rattle.loop_ir.specs.Spots.{same_space}
 use Rattle.loop_ir.specs.Costs.{same_sub}
 use Rattle.loop_ir.specs.Outputs.{IsOuts}
-use Rattle.loop_ir.specs.States.{row_count, enters, leaves}
-use Rattle.loop_ir.specs.Limits.{IsSmall}
 use Rattle.loop_ir.proofs.Outs.{rows-next}
 use Rattle.loop_laws.proofs.Same.{sub_true}
 

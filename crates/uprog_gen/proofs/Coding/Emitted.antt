@@ -1,19 +1,12 @@
 -- The code that the emitters add.
-use Rattle.std.proofs.Common.{◌≡◌, ℕ, zero, suc, ◌+◌, ◌<◌, List, [], ◌∷◌, ◌++◌, map, length}
-use Rattle.std.proofs.Common.{sym, subst, ap, ◌∙◌, arith, length-append, append_assoc, append-nil}
-use Rattle.std.proofs.Common.{length-set}
-use Rattle.std.specs.Prelude.{slice_set, slice_index_or, take}
-use Rattle.std.specs.List.{AllByRecursion}
-use Rattle.std.proofs.lemmas.List.{map_more}
+use Rattle.uprog_gen.proofs.Common.{◌≡◌, ℕ, zero, suc, ◌+◌, ◌<◌, List, [], ◌∷◌, ◌++◌, map, length}
+use Rattle.uprog_gen.proofs.Common.{sym, subst, ap, ◌∙◌, arith, length-append, append_assoc}
+use Rattle.uprog_gen.proofs.Common.{append-nil, length-set, slice_set, slice_index_or}
+use Rattle.uprog_gen.proofs.Common.{AllByRecursion, map_more, Uop, Move, Flow, FlowOf, TurnsOf, End}
+use Rattle.uprog_gen.proofs.Common.{Do, Put, If, Loop, Last, Turn, Block, flow_of}
+use Rattle.std.specs.Prelude.{take}
 use Rattle.std.proofs.Math.Seq.{set-append_seam}
-use Rattle.uprog_code.specs.declared.code.Uop.{Uop}
 use Rattle.uprog_code.specs.declared.code.Uop.TheVariants as uop
-use Rattle.loop_ir.specs.declared.ir.Move.{Move}
-use Rattle.loop_ir.specs.declared.ir.Flow.{Flow}
-use Rattle.loop_ir.specs.Flows.{FlowOf, TurnsOf}
-use Rattle.loop_ir.specs.Flows.FlowOf.{End, Do, Put, If, Loop}
-use Rattle.loop_ir.specs.Flows.TurnsOf.{Last, Turn}
-use Rattle.loop_ir.specs.Plain.{Block, flow_of}
 use Rattle.uprog_gen.specs.Code.{body_uops}
 use Rattle.uprog_gen.specs.FlowCode.{uop_of, leave, size, turns_size, code_of, turns_code}
 use Rattle.uprog_gen.specs.Emits.{EmitsFlow, EmitsActs}

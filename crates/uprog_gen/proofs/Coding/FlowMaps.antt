@@ -1,11 +1,7 @@
 -- What holds of the bodies of flows.
-use Rattle.std.proofs.Common.{◌≡◌, Bool, true}
-use Rattle.std.specs.Prelude.{◌&&◌}
-use Rattle.std.proofs.lemmas.Bool.{and_parts}
-use Rattle.loop_ir.specs.Plain.{Block}
-use Rattle.loop_ir.specs.Flows.{FlowOf, TurnsOf, AllFlow, AllActs, all_flow, all_acts}
-use Rattle.loop_ir.specs.Flows.FlowOf.{End, Do, Put, If, Loop}
-use Rattle.loop_ir.specs.Flows.TurnsOf.{Last, Turn}
+use Rattle.uprog_gen.proofs.Common.{◌≡◌, Bool, true, ◌&&◌, and_parts, Block, FlowOf, TurnsOf}
+use Rattle.uprog_gen.proofs.Common.{AllFlow, AllActs, End, Do, Put, If, Loop, Last, Turn}
+use Rattle.loop_ir.specs.Flows.{all_flow, all_acts}
 
 -- what follows for each body
 module _ (A : Type 0) (P Q : A → Type 0) (by : (a : A) → P a → Q a) where

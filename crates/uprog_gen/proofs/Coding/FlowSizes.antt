@@ -1,23 +1,13 @@
 -- How long the code of a flow is, and how many instructions of it are walked.
-use Rattle.std.proofs.Common.{◌≡◌, ℕ, ◌+◌, ◌-◌, ◌*◌, ◌≤◌, true, List, [], ◌∷◌, ◌++◌, length, refl}
-use Rattle.std.proofs.Common.{arith, length-append}
-use Rattle.std.specs.Prelude.{◌&&◌}
-use Rattle.std.proofs.lemmas.Bool.{and_parts}
-use Rattle.std.proofs.lemmas.List.{length-map}
-use Rattle.std.proofs.Math.Nat.{mul-le-mul_right}
-use Rattle.bit_rows.specs.declared.TheConstants.{WIDTH_MAX}
-use Rattle.uprog_code.specs.declared.code.Uop.{Uop}
-use Rattle.loop_ir.specs.Flows.{FlowOf, TurnsOf}
-use Rattle.loop_ir.specs.Flows.FlowOf.{End, Do, Put, If, Loop}
-use Rattle.loop_ir.specs.Flows.TurnsOf.{Last, Turn}
-use Rattle.loop_ir.specs.Flows.{AllFlow, AllActs, flow_size, acts_size}
-use Rattle.loop_ir.specs.FlowTests.{nests, all_nest}
-use Rattle.loop_ir.specs.Costs.{body_cost}
+use Rattle.uprog_gen.proofs.Common.{◌≡◌, ℕ, ◌+◌, ◌-◌, ◌*◌, ◌≤◌, true, List, [], ◌∷◌, ◌++◌, length}
+use Rattle.uprog_gen.proofs.Common.{refl, arith, length-append, ◌&&◌, and_parts, length-map}
+use Rattle.uprog_gen.proofs.Common.{mul-le-mul_right, WIDTH_MAX, Uop, FlowOf, TurnsOf, End, Do, Put}
+use Rattle.uprog_gen.proofs.Common.{If, Loop, Last, Turn, AllFlow, AllActs, flow_size, nests}
+use Rattle.uprog_gen.proofs.Common.{body_cost, Block, IsSmall, turn-most}
+use Rattle.loop_ir.specs.Flows.{acts_size}
+use Rattle.loop_ir.specs.FlowTests.{all_nest}
 use Rattle.uprog_gen.specs.Code.{code_uop, body_uops}
 use Rattle.uprog_gen.specs.FlowCode.{size, turns_size, code_of, turns_code}
-use Rattle.loop_ir.specs.Plain.{Block}
-use Rattle.loop_ir.specs.Limits.{IsSmall}
-use Rattle.loop_laws.proofs.Costing.{turn-most}
 
 -- the code of flows, one after another, whose first instruction has this place
 abbrev pub flows_code : List (FlowOf Block) → ℕ → List Uop

@@ -1,29 +1,17 @@
 -- Several statements, one after another, and the operation that they make.
-use Rattle.std.proofs.Common.{◌≡◌, ℕ, zero, suc, ◌+◌, ◌*◌, ◌<◌, ◌≤◌, Bool, List, [], ◌∷◌, ◌++◌, map}
-use Rattle.std.proofs.Common.{length, refl, sym, ap, ◌∙◌, subst, arith, zero-add, add-zero, add-one}
-use Rattle.std.proofs.Common.{suc-add, add-suc}
-use Rattle.std.specs.Prelude.{slice_get, slice_index, take}
-use Rattle.std.specs.List.{AllByRecursion, range_with_len}
-use Rattle.std.proofs.lemmas.List.{length-map, length-take}
+use Rattle.uprog_gen.proofs.Common.{◌≡◌, ℕ, zero, suc, ◌+◌, ◌*◌, ◌<◌, ◌≤◌, Bool, List, [], ◌∷◌}
+use Rattle.uprog_gen.proofs.Common.{◌++◌, map, length, refl, sym, ap, ◌∙◌, subst, arith, slice_get}
+use Rattle.uprog_gen.proofs.Common.{slice_index, AllByRecursion, range_with_len, length-map}
+use Rattle.uprog_gen.proofs.Common.{length-take, WIDTH_MAX, D, Column, Kind, Uop, Done, Shape}
+use Rattle.uprog_gen.proofs.Common.{results, Bound, bound, trace, issues_of, Fits, AreBelow}
+use Rattle.uprog_gen.proofs.Common.{Implements, Flow, Space, Result, Source, Block, StepOf, flow_of}
+use Rattle.uprog_gen.proofs.Common.{FlowOf, RoundOf, all_rounds, Spots, after_round, after_rounds}
+use Rattle.std.proofs.Common.{zero-add, add-zero, add-one, suc-add, add-suc}
+use Rattle.std.specs.Prelude.{take}
 use Rattle.std.proofs.lemmas.Grind.{common_steps}
-use Rattle.bit_rows.specs.declared.TheConstants.{WIDTH_MAX}
-use Rattle.dram_model.specs.declared.address.Cell.TheVariants.{D}
-use Rattle.dram_model.specs.Column.{Column, run}
-use Rattle.op_text.specs.declared.tree.Kind.{Kind}
-use Rattle.uprog_code.specs.declared.code.Uop.{Uop}
-use Rattle.uprog_code.specs.declared.code.Uop.TheVariants.{Done}
-use Rattle.uprog_code.specs.Shape.{Shape, width, results}
-use Rattle.uprog_code.specs.Bound.{Bound, bound}
-use Rattle.uprog_code.specs.Machine.{trace, issues_of}
-use Rattle.uprog_code.specs.Fits.{Fits, AreBelow}
-use Rattle.uprog_code.specs.Implements.{numbers, Implements}
-use Rattle.loop_ir.specs.declared.ir.Flow.{Flow}
-use Rattle.loop_ir.specs.declared.ir.Space.{Space}
-use Rattle.loop_ir.specs.declared.ir.Space.TheVariants.{Result, Source}
-use Rattle.loop_ir.specs.Plain.{Block, StepOf, flow_of}
-use Rattle.loop_ir.specs.Flows.{FlowOf}
-use Rattle.loop_ir.specs.Loops.{RoundOf, all_rounds}
-use Rattle.loop_ir.specs.Spots.{Spots, after_round, after_rounds}
+use Rattle.dram_model.specs.Column.{run}
+use Rattle.uprog_code.specs.Shape.{width}
+use Rattle.uprog_code.specs.Implements.{numbers}
 use Rattle.uprog_gen.specs.Where.{Agree, spots_in, IsSpot, IsBelow}
 use Rattle.uprog_gen.specs.FlowCode.{size, code_of}
 use Rattle.uprog_gen.specs.Does.{DoesRounds, Means, AreCheap, joined, total, after_statements}

@@ -1,42 +1,22 @@
 -- The code is legal.
-use Rattle.std.proofs.Common.{◌≡◌, ℕ, zero, suc, ◌+◌, ◌-◌, ◌*◌, ◌<◌, ◌≤◌, true}
-use Rattle.std.proofs.Common.{List, [], ◌∷◌, ◌++◌, map, length, refl, ap, ◌∙◌, subst, arith, Some}
-use Rattle.std.proofs.Common.{⊎_elim, length-append}
-use Rattle.std.specs.Prelude.{slice_get, nat_lt, nat_le, ◌&&◌}
-use Rattle.std.specs.List.{AllByRecursion, list_all}
-use Rattle.std.proofs.Math.Seq.{get_or-append_seam}
-use Rattle.std.proofs.Math.Nat.{mul-le-mul_right}
-use Rattle.std.proofs.lemmas.Option.{slice_get-get_or}
-use Rattle.std.proofs.lemmas.Bool.{and_parts, cases_lt}
-use Rattle.std.proofs.lemmas.Bool.Decides.{nat_tests}
-use Rattle.op_text.specs.declared.tree.Kind.{Kind}
-use Rattle.uprog_code.specs.declared.code.Uop.{Uop}
-use Rattle.uprog_code.specs.declared.code.Uop.TheVariants as uop
-use Rattle.uprog_code.specs.Shape.{Shape, results}
+use Rattle.uprog_gen.proofs.Common.{◌≡◌, ℕ, zero, suc, ◌+◌, ◌-◌, ◌*◌, ◌<◌, ◌≤◌, true, List, [], ◌∷◌}
+use Rattle.uprog_gen.proofs.Common.{◌++◌, map, length, refl, ap, ◌∙◌, subst, arith, Some, ⊎_elim}
+use Rattle.uprog_gen.proofs.Common.{length-append, slice_get, nat_lt, ◌&&◌, AllByRecursion}
+use Rattle.uprog_gen.proofs.Common.{list_all, get_or-append_seam, mul-le-mul_right}
+use Rattle.uprog_gen.proofs.Common.{slice_get-get_or, and_parts, cases_lt, nat_tests, Kind, Uop}
+use Rattle.uprog_gen.proofs.Common.{Shape, results, BodyRef, BodyCmd, Held, is_ref, is_first_ref}
+use Rattle.uprog_gen.proofs.Common.{is_second_ref, is_legal_cmd, are_legal, is_read, reads_rows}
+use Rattle.uprog_gen.proofs.Common.{Sub, Register, Space, Result, Source, ScratchBit, ScratchWord}
+use Rattle.uprog_gen.proofs.Common.{Cells, Move, SetI, SetN, SetT, Mov, AddI, SubI, Add, Block}
+use Rattle.uprog_gen.proofs.Common.{StepOf, FlowOf, TurnsOf, AllFlow, AllActs, End, Do, Put, If}
+use Rattle.uprog_gen.proofs.Common.{Loop, Last, Turn, is_low, all_keep, counts, all_count}
+use Rattle.uprog_gen.proofs.Common.{nth_place, spot_in, IsOwn, enters, HasValues, IsSmall}
+use Rattle.std.specs.Prelude.{nat_le}
 use Rattle.uprog_code.specs.Legal.{is_row, is_first, is_second, may_be_first, may_be_second}
 use Rattle.uprog_code.specs.Legal.{is_legal, IsLegalCode}
-use Rattle.row_alloc.specs.declared.body.BodyRef.{BodyRef}
+use Rattle.uprog_code.specs.declared.code.Uop.TheVariants as uop
 use Rattle.row_alloc.specs.declared.body.BodyRef.TheVariants as ref
-use Rattle.row_alloc.specs.declared.body.BodyCmd.{BodyCmd}
 use Rattle.row_alloc.specs.declared.body.BodyCmd.TheVariants as cmd
-use Rattle.row_alloc.specs.declared.body.Held.{Held}
-use Rattle.row_alloc.specs.Legal.{is_ref, is_first_ref, is_second_ref, is_legal_cmd, are_legal}
-use Rattle.row_alloc.specs.Held.{is_read, reads_rows}
-use Rattle.loop_ir.specs.declared.ir.Sub.{Sub}
-use Rattle.loop_ir.specs.declared.ir.Sub.TheVariants.{Register}
-use Rattle.loop_ir.specs.declared.ir.Space.{Space}
-use Rattle.loop_ir.specs.declared.ir.Space.TheVariants.{Result, Source, ScratchBit, ScratchWord}
-use Rattle.loop_ir.specs.declared.ir.Space.TheVariants.{Cells}
-use Rattle.loop_ir.specs.declared.ir.Move.{Move}
-use Rattle.loop_ir.specs.declared.ir.Move.TheVariants.{SetI, SetN, SetT, Mov, AddI, SubI, Add}
-use Rattle.loop_ir.specs.Plain.{Block, StepOf}
-use Rattle.loop_ir.specs.Flows.{FlowOf, TurnsOf, AllFlow, AllActs}
-use Rattle.loop_ir.specs.Flows.FlowOf.{End, Do, Put, If, Loop}
-use Rattle.loop_ir.specs.Flows.TurnsOf.{Last, Turn}
-use Rattle.loop_ir.specs.FlowTests.{is_low, all_keep, counts, all_count}
-use Rattle.loop_ir.specs.Spots.{nth_place, spot_in, IsOwn}
-use Rattle.loop_ir.specs.States.{enters}
-use Rattle.loop_ir.specs.Limits.{HasValues, IsSmall}
 use Rattle.uprog_gen.specs.Where.{IsSpot, IsBelow}
 use Rattle.uprog_gen.specs.Code.{row_space, register, place_ref, code_ref, code_uop}
 use Rattle.uprog_gen.specs.Code.{body_uops}

@@ -1,27 +1,17 @@
 -- The commands of a serial block: so many before the positions, at each but the last, and there.
-use Rattle.std.proofs.Common.{◌≡◌, ℕ, zero, suc, ◌+◌, ◌-◌, ◌*◌, ◌<◌, ◌≤◌, Bool, List, [], ◌∷◌}
-use Rattle.std.proofs.Common.{◌++◌, map, length, refl, sym, ap, ◌∙◌, subst, arith, append-nil}
-use Rattle.std.proofs.Common.{inl, inr}
-use Rattle.std.proofs.lemmas.List.Sums.{sum_by-cons}
-use Rattle.bit_rows.specs.declared.TheConstants.{WIDTH_MAX}
-use Rattle.op_text.specs.declared.tree.Param.{Param}
-use Rattle.op_text.specs.declared.tree.State.{State}
-use Rattle.op_text.specs.declared.word_ops.WordOp.{WordOp}
-use Rattle.op_text.specs.Language.{Block as Serial, Statement, Compute, Visit, Operation}
-use Rattle.op_text.specs.Scratch.{defines, names_width}
-use Rattle.uprog_code.specs.declared.walker.Counts.{Counts}
-use Rattle.uprog_code.specs.Count.{counts_of}
-use Rattle.uprog_code.specs.Machine.{issues_of, trace}
-use Rattle.uprog_code.specs.Shape.{Microprogram}
-use Rattle.loop_ir.specs.declared.ir.Place.{Place}
-use Rattle.loop_ir.specs.Costs.{turn_aaps, turn_aps}
-use Rattle.loop_ir.specs.Loops.{RoundOf, all_rounds, flow_rounds}
-use Rattle.loop_ir.specs.Plain.{Block, StepOf}
-use Rattle.loop_ir.specs.Plain.StepOf.{Along, Flowed}
-use Rattle.loop_ir.specs.Statements.{Slots}
-use Rattle.loop_laws.proofs.Summed.{rounds_sum, steps_sum, sum_is}
-use Rattle.block_lower.specs.Form.{IsBlockProgram, constant, place_of, row_steps, start, home}
-use Rattle.block_lower.specs.Held.{each_last, held_body, held_last, held_start}
+use Rattle.uprog_gen.proofs.Common.{◌≡◌, ℕ, zero, suc, ◌+◌, ◌-◌, ◌*◌, ◌<◌, ◌≤◌, Bool, List, [], ◌∷◌}
+use Rattle.uprog_gen.proofs.Common.{◌++◌, map, length, refl, sym, ap, ◌∙◌, subst, arith, append-nil}
+use Rattle.uprog_gen.proofs.Common.{inl, inr, sum_by-cons, WIDTH_MAX, Param, State, WordOp}
+use Rattle.uprog_gen.proofs.Common.{Statement, Compute, Visit, Operation, defines, names_width}
+use Rattle.uprog_gen.proofs.Common.{Counts, counts_of, issues_of, trace, Microprogram, Place}
+use Rattle.uprog_gen.proofs.Common.{turn_aaps, turn_aps, RoundOf, all_rounds, Block, StepOf, Along}
+use Rattle.uprog_gen.proofs.Common.{Flowed, Slots, rounds_sum, sum_is, IsBlockProgram, constant}
+use Rattle.uprog_gen.proofs.Common.{place_of, start, home, each_last, held_body, held_last}
+use Rattle.uprog_gen.proofs.Common.{held_start}
+use Rattle.op_text.specs.Language.{Block as Serial}
+use Rattle.loop_ir.specs.Loops.{flow_rounds}
+use Rattle.loop_laws.proofs.Summed.{steps_sum}
+use Rattle.block_lower.specs.Form.{row_steps}
 use Rattle.block_lower.proofs.EachLast.{from_on, round_with, rounds_are, sum_from}
 use Rattle.block_lower.proofs.InRows.{within-ceiling}
 use Rattle.uprog_gen.specs.Costs.{op_aaps, op_aps}

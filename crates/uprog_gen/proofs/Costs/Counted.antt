@@ -1,23 +1,15 @@
 -- The commands of an operation: of each word operation its own, of each block its bodies'.
-use Rattle.std.proofs.Common.{◌≡◌, ℕ, ◌+◌, ◌<◌, ◌≤◌, Bool, true, false, List, [], ◌∷◌, ◌++◌, Option}
-use Rattle.std.proofs.Common.{Some, refl, sym, ap, ◌∙◌}
-use Rattle.bit_rows.specs.declared.TheConstants.{WIDTH_MAX}
-use Rattle.op_text.specs.declared.tree.Kind.{Kind}
-use Rattle.op_text.specs.declared.word_ops.WordOp.{WordOp}
-use Rattle.op_text.specs.declared.word_ops.WordOp.TheVariants as op
-use Rattle.op_text.specs.Language.{Statement, Compute, Visit, Operation}
-use Rattle.op_text.specs.Scratch.{names_width}
-use Rattle.op_text.specs.declared.tree.Param.{Param}
-use Rattle.op_rules.specs.Meets.{Context, next_context, OperationMeets}
-use Rattle.loop_ir.specs.Plain.{Block, StepOf}
-use Rattle.loop_ir.specs.Loops.{all_rounds}
-use Rattle.loop_ir.specs.Costs.{turn_aaps, turn_aps}
-use Rattle.loop_ir.specs.Statements.{Slots, IsPlaced, ComputeMeets, HaveKinds}
-use Rattle.loop_ir.specs.Lowered.{args_width}
+use Rattle.uprog_gen.proofs.Common.{◌≡◌, ℕ, ◌+◌, ◌<◌, ◌≤◌, Bool, true, false, List, [], ◌∷◌, ◌++◌}
+use Rattle.uprog_gen.proofs.Common.{Option, Some, refl, sym, ap, ◌∙◌, WIDTH_MAX, Kind, WordOp}
+use Rattle.uprog_gen.proofs.Common.{Statement, Compute, Visit, Operation, names_width, Param}
+use Rattle.uprog_gen.proofs.Common.{Context, next_context, OperationMeets, Block, StepOf}
+use Rattle.uprog_gen.proofs.Common.{all_rounds, turn_aaps, turn_aps, Slots, IsPlaced, ComputeMeets}
+use Rattle.uprog_gen.proofs.Common.{HaveKinds, args_width, is_flow, rounds_sum}
 use Rattle.word_lower.specs.Programs.{is_linear}
 use Rattle.word_lower.proofs.Statements.{written_in_rooms}
-use Rattle.word_flow.specs.Programs.{is_flow}
 use Rattle.word_flow.proofs.Exactly.{flow_exactly}
+use Rattle.loop_laws.proofs.Summed.{sum_append}
+use Rattle.op_text.specs.declared.word_ops.WordOp.TheVariants as op
 use Rattle.uprog_gen.specs.Costs.{op_aaps, op_aps}
 use Rattle.uprog_gen.specs.Does.{joined}
 use Rattle.uprog_gen.specs.Layout.{IsLayout}
@@ -27,7 +19,6 @@ use Rattle.uprog_gen.proofs.Rows.Top.{all_rounds-append}
 use Rattle.uprog_gen.proofs.Naming.Stage.{Stage, next_stage}
 use Rattle.uprog_gen.proofs.Meaning.Meant.{args_same}
 use Rattle.uprog_gen.proofs.Naming.Ready.{statement_meets, is_placed}
-use Rattle.loop_laws.proofs.Summed.{rounds_sum, sum_append}
 use Rattle.uprog_gen.proofs.Costs.Exact.{IsExactly, is_exactly, flow_is_exactly, op_width}
 use Rattle.uprog_gen.proofs.Costs.Exact.{first_width, width_is}
 

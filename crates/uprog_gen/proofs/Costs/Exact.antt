@@ -1,27 +1,20 @@
 -- Each word operation's loop program takes exactly the operation's commands.
-use Rattle.std.proofs.Common.{◌≡◌, ℕ, ◌-◌, ◌<◌, ◌≤◌, Bool, true, false, cond}
-use Rattle.std.proofs.Common.{List, [], ◌∷◌, Some, refl, sym, ap, ◌∙◌, arith}
-use Rattle.bit_rows.specs.declared.TheConstants.{WIDTH_MAX}
-use Rattle.op_text.specs.declared.tree.Kind.{Kind}
-use Rattle.op_text.specs.declared.tree.Kind.TheVariants.{Word, Bit}
-use Rattle.op_text.specs.declared.word_ops.WordOp.{WordOp}
-use Rattle.op_text.specs.declared.word_ops.WordOp.TheVariants as op
+use Rattle.uprog_gen.proofs.Common.{◌≡◌, ℕ, ◌-◌, ◌<◌, ◌≤◌, Bool, true, false, cond, List, [], ◌∷◌}
+use Rattle.uprog_gen.proofs.Common.{Some, refl, sym, ap, ◌∙◌, arith, WIDTH_MAX, Kind, Word, Bit}
+use Rattle.uprog_gen.proofs.Common.{WordOp, width, Block, StepOf, all_rounds, turn_aaps, turn_aps}
+use Rattle.uprog_gen.proofs.Common.{rounds_sum, sum_is, is_flow}
 use Rattle.op_text.specs.declared.word_ops.Signature.{Signature}
-use Rattle.op_text.specs.declared.word_ops.Signature.TheVariants as shape
 use Rattle.op_text.specs.WordOps.{row_of, forms, signature_forms, filled, given_first, first_of}
-use Rattle.op_text.specs.Meaning.{width}
 use Rattle.op_text.proofs.Operations.{first_settles}
-use Rattle.loop_ir.specs.Plain.{Block, StepOf}
-use Rattle.loop_ir.specs.Loops.{all_rounds}
-use Rattle.loop_ir.specs.Costs.{turn_aaps, turn_aps}
 use Rattle.loop_laws.specs.Rooms.{placed_steps}
 use Rattle.loop_laws.proofs.Alike.{InRooms, rounds_like}
-use Rattle.loop_laws.proofs.Summed.{rounds_sum, sum_is}
 use Rattle.word_lower.specs.declared.table.ProgramRow.{ProgramRow}
 use Rattle.word_lower.specs.declared.table.ProgramRow.TheVariants.{Spread}
 use Rattle.word_lower.specs.Programs.{program, program_of}
-use Rattle.word_flow.specs.Programs.{is_flow, flow_total, flow_aps}
+use Rattle.word_flow.specs.Programs.{flow_total, flow_aps}
 use Rattle.word_flow.proofs.Exactly.{IsExact}
+use Rattle.op_text.specs.declared.word_ops.WordOp.TheVariants as op
+use Rattle.op_text.specs.declared.word_ops.Signature.TheVariants as shape
 use Rattle.uprog_gen.specs.Costs.{op_aaps, op_aps}
 use Rattle.uprog_gen.proofs.Costs.Kinds.{all_kinds}
 

@@ -1,13 +1,7 @@
 -- Each command is an AAP or an AP: those of all rounds together are all their commands.
-use Rattle.std.proofs.Common.{◌≡◌, ◌+◌, cond, List, [], ◌∷◌, length, refl, arith}
-use Rattle.std.specs.Prelude.{count_by}
-use Rattle.std.proofs.lemmas.List.Sums.{sum_by-cons}
-use Rattle.row_alloc.specs.declared.body.BodyCmd.{BodyCmd}
-use Rattle.row_alloc.specs.declared.body.BodyCmd.TheVariants.{Aap, Ap}
-use Rattle.loop_ir.specs.Plain.{Block}
-use Rattle.loop_ir.specs.Loops.{RoundOf}
-use Rattle.loop_ir.specs.Costs.{is_aap, is_ap, turn_aaps, turn_aps, turn_cost, rounds_cost}
-use Rattle.loop_laws.proofs.Summed.{rounds_sum}
+use Rattle.uprog_gen.proofs.Common.{◌≡◌, ◌+◌, cond, List, [], ◌∷◌, length, refl, arith, count_by}
+use Rattle.uprog_gen.proofs.Common.{sum_by-cons, BodyCmd, Aap, Ap, Block, RoundOf, is_aap, is_ap}
+use Rattle.uprog_gen.proofs.Common.{turn_aaps, turn_aps, turn_cost, rounds_cost, rounds_sum}
 
 one_kind : (c : BodyCmd) → cond (is_aap c) 1 0 + cond (is_ap c) 1 0 ≡ 1
 one_kind (Aap x y) = refl

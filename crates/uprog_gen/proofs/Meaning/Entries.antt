@@ -1,35 +1,25 @@
 -- From the code of an operation's statements to its entry.
-use Rattle.std.proofs.Common.{◌≡◌, false, ℕ, zero, suc, ◌+◌, ◌<◌, ◌≤◌, List, [], ◌∷◌, ◌++◌, take}
-use Rattle.std.proofs.Common.{map, length, refl, sym, ap, ◌∙◌, subst, arith}
-use Rattle.std.specs.Prelude.{slice_index_or, ◌≢◌, bytes_eq}
-use Rattle.std.specs.List.{AllByRecursion, AllPairs}
-use Rattle.std.proofs.lemmas.Bool.{and_parts, or_parts}
+use Rattle.uprog_gen.proofs.Common.{◌≡◌, false, ℕ, zero, suc, ◌+◌, ◌<◌, ◌≤◌, List, [], ◌∷◌, ◌++◌}
+use Rattle.uprog_gen.proofs.Common.{take, map, length, refl, sym, ap, ◌∙◌, subst, arith}
+use Rattle.uprog_gen.proofs.Common.{slice_index_or, AllByRecursion, and_parts, map-append, map_more}
+use Rattle.uprog_gen.proofs.Common.{length-map, Param, is_among, Statement, Operation, operation}
+use Rattle.uprog_gen.proofs.Common.{Op, Each, Differ, OperationMeets, scratch_is_small, EntryCode}
+use Rattle.uprog_gen.proofs.Common.{Head, Shape, Microprogram, shape_of, microprogram_of, op_shape}
+use Rattle.uprog_gen.proofs.Common.{StepOf, Block, FlowOf, AllFlow, flow_size, body_cost, IsSmall}
+use Rattle.uprog_gen.proofs.Common.{CanCompile, Spot, Slots, front}
+use Rattle.std.specs.Prelude.{◌≢◌, bytes_eq}
+use Rattle.std.specs.List.{AllPairs}
+use Rattle.std.proofs.lemmas.Bool.{or_parts}
 use Rattle.std.proofs.lemmas.Slice.Eq.{bytes_eq-Decides}
-use Rattle.std.proofs.lemmas.List.{map-append, map_more, length-map}
 use Rattle.std.proofs.lemmas.List.Elements.{All-from_recursion}
 use Rattle.std.proofs.lemmas.List.Kept.{AllPairs-cons}
 use Rattle.text_lex.specs.Spelled.{fits_name}
-use Rattle.op_text.specs.declared.tree.Param.{Param}
 use Rattle.op_text.specs.Items.{spelling_of}
-use Rattle.op_text.specs.Rules.{is_among, is_plain}
-use Rattle.op_text.specs.Language.{Statement, Operation, operation}
-use Rattle.op_text.specs.declared.tree.Op.{Op}
-use Rattle.op_text.specs.Spelling.{Each}
+use Rattle.op_text.specs.Rules.{is_plain}
 use Rattle.op_text.specs.Scratch.{ceiling}
-use Rattle.op_rules.specs.Meets.{Differ, OperationMeets, OpsMeet}
-use Rattle.op_rules.proofs.Few.{scratch_is_small}
-use Rattle.uprog_code.specs.declared.code.EntryCode.{EntryCode}
-use Rattle.uprog_code.specs.declared.code.Head.{Head}
-use Rattle.uprog_code.specs.Shape.{Shape, Microprogram, shape_of, microprogram_of}
+use Rattle.op_rules.specs.Meets.{OpsMeet}
 use Rattle.uprog_code.specs.Programs.{IsEntry, IsProgram}
-use Rattle.uprog_code.specs.Texts.{op_shape, text_op, EntryDoes, ImplementsAll}
-use Rattle.loop_ir.specs.Plain.{StepOf, Block}
-use Rattle.loop_ir.specs.Flows.{FlowOf, AllFlow, flow_size}
-use Rattle.loop_ir.specs.Costs.{body_cost}
-use Rattle.loop_ir.specs.Limits.{IsSmall, CanCompile}
-use Rattle.loop_ir.specs.Spots.{Spot}
-use Rattle.loop_ir.specs.Statements.{Slots}
-use Rattle.loop_front.specs.Front.{front}
+use Rattle.uprog_code.specs.Texts.{text_op, EntryDoes, ImplementsAll}
 use Rattle.loop_front.proofs.Fronts.{front_is}
 use Rattle.uprog_gen.specs.Where.{IsSpot}
 use Rattle.uprog_gen.specs.Does.{total}

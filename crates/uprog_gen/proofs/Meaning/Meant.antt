@@ -1,45 +1,32 @@
 -- The loop programs of an operation's statements mean the operation, within its ceiling and its own
 -- rows.
-use Rattle.std.proofs.Common.{◌≡◌, ℕ, ◌+◌, ◌*◌, ◌<◌, ◌≤◌, Bool, true, false, cond, List, [], ◌∷◌}
-use Rattle.std.proofs.Common.{◌++◌, map, Option, Some, refl, sym, ap, ◌∙◌, subst, arith, bytes_eq}
-use Rattle.std.proofs.Common.{inl, inr}
-use Rattle.std.specs.List.{range_with_len, AllByRecursion}
+use Rattle.uprog_gen.proofs.Common.{or_left, or_right, ◌≡◌, ℕ, ◌+◌, ◌*◌, ◌<◌, ◌≤◌, Bool, true}
+use Rattle.uprog_gen.proofs.Common.{false, cond, List, [], ◌∷◌, ◌++◌, map, Option, Some, refl, sym}
+use Rattle.uprog_gen.proofs.Common.{ap, ◌∙◌, subst, arith, bytes_eq, inl, inr, range_with_len}
+use Rattle.uprog_gen.proofs.Common.{AllByRecursion, sum_by-cons, mul_comm, WIDTH_MAX, Kind, Param}
+use Rattle.uprog_gen.proofs.Common.{Statement, Compute, Visit, Operation, result_names, is_among}
+use Rattle.uprog_gen.proofs.Common.{kind_among, NameValue, width, changed, defines, body_defines}
+use Rattle.uprog_gen.proofs.Common.{kind_of, names_width, need_inside, bits_inside, words_inside}
+use Rattle.uprog_gen.proofs.Common.{scratch_words, Each, IsNew, names_of, Differ, IsKnown, Context}
+use Rattle.uprog_gen.proofs.Common.{next_context, at_start, OperationMeets, all_names, same_name}
+use Rattle.uprog_gen.proofs.Common.{is_same, or_first, op_shape, Uop, Implements, Result, Source}
+use Rattle.uprog_gen.proofs.Common.{Slot, StepOf, Block, Along, Flowed, all_rounds, Spot, Spots}
+use Rattle.uprog_gen.proofs.Common.{IsOwn, HasValues, CanCompile, Slots, HoldsAt, args_width}
 use Rattle.std.proofs.lemmas.List.FromFn.{length-map-range_with_len}
-use Rattle.std.proofs.lemmas.List.Sums.{sum_by-cons}
-use Rattle.std.proofs.Math.Nat.{mul_comm, mul-add, mul-le-mul_left}
-use Rattle.bit_rows.specs.declared.TheConstants.{WIDTH_MAX}
+use Rattle.std.proofs.Math.Nat.{mul-add, mul-le-mul_left}
 use Rattle.bit_rows.specs.Bits.{value}
-use Rattle.op_text.specs.declared.tree.Kind.{Kind}
-use Rattle.op_text.specs.declared.tree.Param.{Param}
-use Rattle.op_text.specs.Language.{Statement, Compute, Visit, Operation, results, result_names}
-use Rattle.op_text.specs.Rules.{is_among, kind_among}
-use Rattle.op_text.specs.Values as text
-use Rattle.op_text.specs.Meaning.{NameValue, width, holding, changed, with_sources, holds_nothing}
-use Rattle.op_text.specs.Meaning.{number, after_op, meaning}
-use Rattle.op_text.specs.Scratch.{defines, body_defines, kind_of, names_width, statement_ceiling}
-use Rattle.op_text.specs.Scratch.{body_ceiling, need_inside, bits_inside, words_inside}
-use Rattle.op_text.specs.Scratch.{scratch_bits, scratch_words}
+use Rattle.op_text.specs.Language.{results}
+use Rattle.op_text.specs.Meaning.{holding, with_sources, holds_nothing, number, after_op, meaning}
+use Rattle.op_text.specs.Scratch.{statement_ceiling, body_ceiling, scratch_bits}
 use Rattle.op_text.specs.Costs.{op_ceiling}
-use Rattle.op_text.specs.Spelling.{Each}
-use Rattle.op_rules.specs.Meets.{IsNew, names_of, Differ, IsKnown, Context, next_context, at_start}
-use Rattle.op_rules.specs.Meets.{OperationMeets}
-use Rattle.op_rules.specs.Laws.{all_names}
-use Rattle.op_rules.proofs.Names.{same_name, is_same, or_first, or_second}
-use Rattle.uprog_code.specs.Shape as shape
-use Rattle.uprog_code.specs.Texts.{op_shape}
-use Rattle.uprog_code.specs.declared.code.Uop.{Uop}
-use Rattle.uprog_code.specs.Implements.{Implements}
-use Rattle.loop_ir.specs.declared.ir.Space.TheVariants.{Result, Source}
-use Rattle.loop_ir.specs.declared.names.Slot.{Slot}
-use Rattle.loop_ir.specs.Plain.{StepOf, Block}
-use Rattle.loop_ir.specs.Plain.StepOf.{Single, Along, Flowed}
+use Rattle.op_rules.proofs.Names.{or_second}
+use Rattle.loop_ir.specs.Plain.StepOf.{Single}
 use Rattle.loop_laws.proofs.EveryRound.{rounds_among}
+use Rattle.loop_ir.specs.Limits.{StepHasValues}
+use Rattle.loop_ir.specs.Lowered.{IsStatementRow, kind_at, ceiling_of}
+use Rattle.op_text.specs.Values as text
+use Rattle.uprog_code.specs.Shape as shape
 use Rattle.uprog_gen.proofs.Coding.FlowMaps.{flow_among}
-use Rattle.loop_ir.specs.Loops.{all_rounds}
-use Rattle.loop_ir.specs.Spots.{Spot, Spots, IsOwn}
-use Rattle.loop_ir.specs.Limits.{HasValues, StepHasValues, CanCompile}
-use Rattle.loop_ir.specs.Statements.{Slots}
-use Rattle.loop_ir.specs.Lowered.{HoldsAt, IsStatementRow, kind_at, args_width, ceiling_of}
 use Rattle.uprog_gen.specs.Where.{IsSpot}
 use Rattle.uprog_gen.specs.Does.{after_statements, spot_number, numbers_in, AreCheap, total, Means}
 use Rattle.uprog_gen.specs.Layout.{IsLayout, slot, source_lays, place_in, defined_lays, found}
@@ -47,7 +34,7 @@ use Rattle.uprog_gen.specs.Programs.{AreLowered}
 use Rattle.uprog_gen.proofs.Naming.Lays.{lay, by_bool, some_is, found-append, or_else, found_kind}
 use Rattle.uprog_gen.proofs.Naming.Lays.{source_params}
 use Rattle.uprog_gen.proofs.Naming.Lies.{LiesIn, kinds_of}
-use Rattle.uprog_gen.proofs.Naming.Among.{changed_other, each_among, or_left, or_right}
+use Rattle.uprog_gen.proofs.Naming.Among.{changed_other, each_among}
 use Rattle.uprog_gen.proofs.Naming.Scene.{width_same, kind_known, known_among, slot_there}
 use Rattle.uprog_gen.proofs.Naming.Scene.{kind_back, slot_lies, slot_own, slot_spots, results_known}
 use Rattle.uprog_gen.proofs.Naming.Scene.{shape_results}

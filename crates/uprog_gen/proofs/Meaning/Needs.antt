@@ -1,12 +1,8 @@
 -- The greatest need of statements, one statement after another.
-use Rattle.std.proofs.Common.{◌≡◌, ℕ, ◌+◌, ◌<◌, List, [], ◌∷◌, ◌++◌, take, map, length, sym, ap}
-use Rattle.std.proofs.Common.{◌∙◌, arith}
-use Rattle.std.specs.Prelude.{max, slice_index_or}
-use Rattle.std.proofs.lemmas.List.{map-append, map_more}
-use Rattle.op_text.specs.declared.tree.Stmt.{Stmt}
-use Rattle.op_text.specs.declared.word_ops.WordOp.{WordOp}
-use Rattle.op_text.specs.Language.{statement}
-use Rattle.op_text.specs.Scratch.{need_inside, greatest}
+use Rattle.uprog_gen.proofs.Common.{◌≡◌, ℕ, ◌+◌, ◌<◌, List, [], ◌∷◌, ◌++◌, take, map, length, sym}
+use Rattle.uprog_gen.proofs.Common.{ap, ◌∙◌, arith, slice_index_or, map-append, map_more, Stmt}
+use Rattle.uprog_gen.proofs.Common.{WordOp, statement, need_inside, greatest}
+use Rattle.std.specs.Prelude.{max}
 
 greatest_more : (ns : List ℕ) (n : ℕ) → greatest (ns ++ n ∷ []) ≡ max (greatest ns) n
 greatest_more [] n = grind arith

@@ -1,11 +1,11 @@
 -- Numbers and their bits, as operations and rows have them.
-use Rattle.std.proofs.Common.{◌≡◌, ℕ, zero, suc, ◌+◌, ◌*◌, Bool, true, false, List, [], ◌∷◌, length}
-use Rattle.std.proofs.Common.{refl, ap, ◌∙◌}
-use Rattle.std.specs.Prelude.{◌%◌, ◌/◌, ◌==◌}
-use Rattle.bit_rows.specs.Bits as row
+use Rattle.uprog_gen.proofs.Common.{◌≡◌, ℕ, zero, suc, ◌+◌, ◌*◌, Bool, true, false, List, [], ◌∷◌}
+use Rattle.uprog_gen.proofs.Common.{length, refl, ap, ◌∙◌, ◌==◌}
+use Rattle.std.specs.Prelude.{◌%◌, ◌/◌}
 use Rattle.bit_rows.specs.Bits.{bits as row_bits}
 use Rattle.op_text.specs.Values.{bits as text_bits}
 use Rattle.bit_rows.proofs.Words.{bits-value}
+use Rattle.bit_rows.specs.Bits as row
 use Rattle.op_text.specs.Values as text
 
 bit_same : (b : Bool) → text.bit_number b ≡ row.bit_number b

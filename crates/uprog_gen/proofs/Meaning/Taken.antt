@@ -1,35 +1,19 @@
 -- The graphs that are taken out of flows are those of the blocks, and say how many commands
 -- there are.
-use Rattle.std.proofs.Common.{◌≡◌, ℕ, ◌+◌, ◌*◌, ◌<◌, ◌≤◌, Bool, List, [], ◌∷◌, ◌++◌, take, map}
-use Rattle.std.proofs.Common.{length, refl, sym, ap, ◌∙◌, subst, arith, append_assoc, append-nil}
-use Rattle.std.proofs.Common.{inl, inr}
-use Rattle.std.specs.Prelude.{slice_index_or}
+use Rattle.uprog_gen.proofs.Common.{◌≡◌, ℕ, ◌+◌, ◌*◌, ◌<◌, ◌≤◌, Bool, List, [], ◌∷◌, ◌++◌, take}
+use Rattle.uprog_gen.proofs.Common.{map, length, refl, sym, ap, ◌∙◌, subst, arith, append_assoc}
+use Rattle.uprog_gen.proofs.Common.{append-nil, inl, inr, slice_index_or, map-append, map_more}
+use Rattle.uprog_gen.proofs.Common.{sum_by-cons, WIDTH_MAX, Op, State, Stmt, Statement, Compute}
+use Rattle.uprog_gen.proofs.Common.{Visit, Operation, statement, operation, names_width, Context}
+use Rattle.uprog_gen.proofs.Common.{next_context, at_start, OperationMeets, EntryCode, Microprogram}
+use Rattle.uprog_gen.proofs.Common.{microprogram_of, Flow, Move, StepOf, Block, flow_of, Along}
+use Rattle.uprog_gen.proofs.Common.{FlowOf, End, Do, Loop, Last, all_rounds, Slots, front}
+use Rattle.uprog_gen.proofs.Common.{IsBlockProgram, start, constant, place_of, home, each_last}
+use Rattle.uprog_gen.proofs.Common.{held_start, held_body, held_last}
 use Rattle.std.specs.List.{zip}
-use Rattle.std.proofs.lemmas.List.{map-append, map_more}
-use Rattle.std.proofs.lemmas.List.Sums.{sum_by-cons}
-use Rattle.bit_rows.specs.declared.TheConstants.{WIDTH_MAX}
-use Rattle.op_text.specs.declared.tree.Op.{Op}
-use Rattle.op_text.specs.declared.tree.State.{State}
-use Rattle.op_text.specs.declared.tree.Stmt.{Stmt}
-use Rattle.op_text.specs.Language.{Statement, Compute, Visit, Operation, statement, operation}
 use Rattle.op_text.specs.Language.{Block as Serial}
-use Rattle.op_text.specs.Scratch.{names_width}
-use Rattle.op_rules.specs.Meets.{Context, next_context, at_start, OperationMeets}
-use Rattle.uprog_code.specs.declared.code.EntryCode.{EntryCode}
-use Rattle.uprog_code.specs.Shape.{Microprogram, microprogram_of}
-use Rattle.loop_ir.specs.declared.ir.Flow.{Flow}
-use Rattle.loop_ir.specs.declared.ir.Move.{Move}
-use Rattle.loop_ir.specs.Plain.{StepOf, Block, flow_of}
-use Rattle.loop_ir.specs.Plain.StepOf.{Along}
-use Rattle.loop_ir.specs.Flows.{FlowOf}
-use Rattle.loop_ir.specs.Flows.FlowOf.{End, Do, Loop}
-use Rattle.loop_ir.specs.Flows.TurnsOf.{Last}
-use Rattle.loop_ir.specs.Loops.{all_rounds}
-use Rattle.loop_ir.specs.Statements.{Slots}
 use Rattle.loop_front.specs.Front.{used_subs, in_registers, before, after, each_sub, put_all}
-use Rattle.loop_front.specs.Front.{starts, round_flow, each_flow, followed, clears, front}
-use Rattle.block_lower.specs.Form.{IsBlockProgram, start, constant, place_of, home}
-use Rattle.block_lower.specs.Held.{each_last, held_start, held_body, held_last}
+use Rattle.loop_front.specs.Front.{starts, round_flow, each_flow, followed, clears}
 use Rattle.uprog_gen.specs.Does.{IsCheap, AreCheap}
 use Rattle.uprog_gen.specs.Does.{total as sum_of}
 use Rattle.uprog_gen.specs.Layout.{IsLayout}

@@ -1,31 +1,18 @@
 -- The loop programs of all statements, one after another, leave in each name's rows what the
 -- operation means.
-use Rattle.std.proofs.Common.{◌≡◌, ℕ, ◌+◌, ◌*◌, ◌<◌, ◌≤◌, Bool, true, false, List, [], ◌∷◌, ◌++◌}
-use Rattle.std.proofs.Common.{Option, Some, None, refl, sym, ap, ◌∙◌, subst, arith, ◌⊎◌, inl, inr}
-use Rattle.std.proofs.Common.{⊎_elim, append_assoc, append-nil}
-use Rattle.std.proofs.lemmas.Nat.{mul-add-lt}
+use Rattle.uprog_gen.proofs.Common.{◌≡◌, ℕ, ◌+◌, ◌*◌, ◌<◌, ◌≤◌, Bool, true, false, List, [], ◌∷◌}
+use Rattle.uprog_gen.proofs.Common.{◌++◌, Option, Some, None, refl, sym, ap, ◌∙◌, subst, arith, ◌⊎◌}
+use Rattle.uprog_gen.proofs.Common.{inl, inr, ⊎_elim, append_assoc, append-nil, mul-add-lt}
+use Rattle.uprog_gen.proofs.Common.{mul_comm, WIDTH_MAX, Kind, Word, Bit, Param, Statement}
+use Rattle.uprog_gen.proofs.Common.{Operation, is_among, NameValue, width, after_statement, defines}
+use Rattle.uprog_gen.proofs.Common.{body_defines, names_of, Context, next_context, OperationMeets}
+use Rattle.uprog_gen.proofs.Common.{names-append, Space, Result, Source, ScratchBit, ScratchWord}
+use Rattle.uprog_gen.proofs.Common.{Cells, Slot, StepOf, Block, all_rounds, Spot, Spots, spot_in}
+use Rattle.uprog_gen.proofs.Common.{after_rounds, is_state, Slots, holds_kind, written_names}
+use Rattle.uprog_gen.proofs.Common.{slot_spot, HoldsAt}
 use Rattle.std.proofs.lemmas.Bool.{cases_order}
-use Rattle.std.proofs.Math.Nat.{mul_comm}
-use Rattle.bit_rows.specs.declared.TheConstants.{WIDTH_MAX}
-use Rattle.op_text.specs.declared.tree.Kind.{Kind}
-use Rattle.op_text.specs.declared.tree.Kind.TheVariants.{Word, Bit}
-use Rattle.op_text.specs.declared.tree.Param.{Param}
-use Rattle.op_text.specs.Language.{Statement, Operation}
-use Rattle.op_text.specs.Rules.{is_among}
-use Rattle.op_text.specs.Meaning.{NameValue, width, after_statement, after_body}
-use Rattle.op_text.specs.Scratch.{defines, body_defines}
-use Rattle.op_rules.specs.Meets.{names_of, Context, next_context, OperationMeets}
-use Rattle.op_rules.proofs.Standing.{names-append}
-use Rattle.loop_ir.specs.declared.ir.Space.{Space}
-use Rattle.loop_ir.specs.declared.ir.Space.TheVariants.{Result, Source, ScratchBit, ScratchWord}
-use Rattle.loop_ir.specs.declared.ir.Space.TheVariants.{Cells}
-use Rattle.loop_ir.specs.declared.names.Slot.{Slot}
-use Rattle.loop_ir.specs.Plain.{StepOf, Block}
-use Rattle.loop_ir.specs.Loops.{all_rounds}
-use Rattle.loop_ir.specs.Spots.{Spot, Spots, spot_in, after_rounds, is_state}
-use Rattle.loop_ir.specs.Statements.{Slots, holds_kind, written_names}
-use Rattle.loop_ir.specs.Lowered.{slot_spot, slot_bits, HoldsAt, Holds, IsRowOf, IsInside}
-use Rattle.loop_ir.specs.Lowered.{IsChanged, Does}
+use Rattle.op_text.specs.Meaning.{after_body}
+use Rattle.loop_ir.specs.Lowered.{slot_bits, Holds, IsRowOf, IsInside, IsChanged, Does}
 use Rattle.uprog_gen.specs.Does.{after_statements}
 use Rattle.uprog_gen.specs.Layout.{IsLayout}
 use Rattle.uprog_gen.specs.Programs.{AreLowered}

@@ -1,31 +1,20 @@
 -- Names among others, and what a statement leaves of the others.
-use Rattle.std.proofs.Common.{◌≡◌, ℕ, Bool, true, false, not, ◌||◌, cond, List, [], ◌∷◌, ◌++◌, map}
-use Rattle.std.proofs.Common.{Some, None, refl, sym, ap, ◌∙◌, subst, bytes_eq, ◌⊎◌, inl, inr, arith}
+use Rattle.uprog_gen.proofs.Common.{or_left, or_right, ◌≡◌, ℕ, Bool, true, false, not, ◌||◌, cond}
+use Rattle.uprog_gen.proofs.Common.{List, [], ◌∷◌, ◌++◌, map, Some, None, refl, sym, ap, ◌∙◌, subst}
+use Rattle.uprog_gen.proofs.Common.{bytes_eq, ◌⊎◌, inl, inr, arith, filter, Kind, State, Equation}
+use Rattle.uprog_gen.proofs.Common.{Statement, Compute, Visit, is_among, kind_among, NameValue}
+use Rattle.uprog_gen.proofs.Common.{changed, after_statement, param, state_names, word_names, Each}
+use Rattle.uprog_gen.proofs.Common.{targets, same_name, other_way, among-append, or_first}
+use Rattle.uprog_gen.proofs.Common.{written_names}
 use Rattle.std.specs.Prelude.{fold}
-use Rattle.std.specs.List.{filter}
-use Rattle.op_text.specs.declared.tree.Kind.{Kind}
-use Rattle.op_text.specs.declared.tree.State.{State}
-use Rattle.op_text.specs.Language.{Equation, Block, Statement, Compute, Visit}
-use Rattle.op_text.specs.Rules.{is_among, kind_among}
-use Rattle.op_text.specs.Meaning.{NameValue, changed, bit_written, term_bit, bit_read, with_lets}
-use Rattle.op_text.specs.Meaning.{assigned, visited, positions, with_blanks, with_states, computed}
-use Rattle.op_text.specs.Meaning.{after_statement}
-use Rattle.op_text.specs.Scratch.{param, state_names, word_names}
-use Rattle.op_text.specs.Spelling.{Each}
-use Rattle.op_rules.specs.Meets.{targets}
-use Rattle.op_rules.proofs.Names.{same_name, other_way, among-append, or_first}
-use Rattle.loop_ir.specs.Statements.{written_names}
+use Rattle.op_text.specs.Language.{Block}
+use Rattle.op_text.specs.Meaning.{bit_written, term_bit, bit_read, with_lets, assigned, visited}
+use Rattle.op_text.specs.Meaning.{positions, with_blanks, with_states, computed}
 use Rattle.uprog_gen.proofs.Naming.Lays.{by_bool}
 
 pub or_split : (a b : Bool) → (a || b) ≡ true → (a ≡ true) ⊎ (b ≡ true)
 or_split true b h = inl refl
 or_split false b h = inr h
-
-pub or_left : (a b : Bool) → a ≡ true → (a || b) ≡ true
-or_left a b h = grind (arith, h)
-
-pub or_right : (a b : Bool) → b ≡ true → (a || b) ≡ true
-or_right a b h = grind (arith, h)
 
 -- what holds of each of the names
 pub each_among : (P : List ℕ → Type 0) (ns : List (List ℕ)) (name : List ℕ) → Each P ns

@@ -1,26 +1,16 @@
 -- All names of an operation come to their places.
-use Rattle.std.proofs.Common.{◌≡◌, ℕ, zero, suc, ◌+◌, ◌<◌, ◌≤◌, cond, List, [], ◌∷◌, ◌++◌, map}
-use Rattle.std.proofs.Common.{length, take, drop, Option, Some, None, refl, sym, ap, ◌∙◌, subst}
-use Rattle.std.proofs.Common.{arith, append_assoc, append-nil}
-use Rattle.std.specs.Prelude.{count_by, slice_index_or}
-use Rattle.std.proofs.lemmas.List.{map_more, take-map, take-append-drop, take_all}
-use Rattle.std.proofs.lemmas.List.Sums.{sum_by-append}
-use Rattle.op_text.specs.declared.tree.Kind.{Kind}
-use Rattle.op_text.specs.declared.tree.Kind.TheVariants.{Word, Bit}
-use Rattle.op_text.specs.declared.tree.Param.{Param}
-use Rattle.op_text.specs.declared.tree.Stmt.{Stmt}
-use Rattle.op_text.specs.Language.{Statement, Compute, Visit, Operation, statement, result_names}
-use Rattle.op_text.specs.Rules.{kind_among}
-use Rattle.op_text.specs.Scratch.{defines, body_defines}
-use Rattle.op_rules.specs.Meets.{names_of, Differ, Context, next_context, at_start, StatementMeets}
-use Rattle.op_rules.specs.Meets.{BodyMeets, OperationMeets}
-use Rattle.op_rules.proofs.Names.{new-left}
-use Rattle.op_rules.proofs.Standing.{names-append}
-use Rattle.op_rules.proofs.Few.{scratch_is_small}
+use Rattle.uprog_gen.proofs.Common.{◌≡◌, ℕ, zero, suc, ◌+◌, ◌<◌, ◌≤◌, cond, List, [], ◌∷◌, ◌++◌}
+use Rattle.uprog_gen.proofs.Common.{map, length, take, Option, Some, None, refl, sym, ap, ◌∙◌}
+use Rattle.uprog_gen.proofs.Common.{subst, arith, append_assoc, append-nil, count_by}
+use Rattle.uprog_gen.proofs.Common.{slice_index_or, map_more, take_all, sum_by-append, Kind, Word}
+use Rattle.uprog_gen.proofs.Common.{Bit, Param, Stmt, Statement, Compute, Visit, Operation}
+use Rattle.uprog_gen.proofs.Common.{statement, result_names, kind_among, defines, body_defines}
+use Rattle.uprog_gen.proofs.Common.{names_of, Differ, Context, next_context, at_start}
+use Rattle.uprog_gen.proofs.Common.{StatementMeets, BodyMeets, OperationMeets, new-left}
+use Rattle.uprog_gen.proofs.Common.{names-append, scratch_is_small, Slot, NameMap, slots_of}
+use Rattle.std.proofs.Common.{drop}
+use Rattle.std.proofs.lemmas.List.{take-map, take-append-drop}
 use Rattle.op_rules.proofs.Apart.{names_stand_once}
-use Rattle.loop_ir.specs.declared.names.Slot.{Slot}
-use Rattle.loop_ir.specs.declared.names.NameMap.{NameMap}
-use Rattle.loop_ir.specs.Statements.{slots_of}
 use Rattle.uprog_gen.specs.Layout.{Lay, is_scratch, source_lays, defined_lays, found, IsLayoutMap}
 use Rattle.uprog_gen.specs.Laying.{placed, Lays, kind_in, Knows, IsShort}
 use Rattle.uprog_gen.proofs.Naming.Lays.{params_of, or_else, found_kind, lays_params}

@@ -1,16 +1,8 @@
 -- Names and their places.
-use Rattle.std.proofs.Common.{◌≡◌, ℕ, ◌+◌, Bool, true, false, cond, List, [], ◌∷◌, ◌++◌, map}
-use Rattle.std.proofs.Common.{Option, Some, None, refl, ap, ◌∙◌, subst, bytes_eq, arith}
-use Rattle.std.proofs.lemmas.List.{map-append}
-use Rattle.op_text.specs.declared.tree.Kind.{Kind}
-use Rattle.op_text.specs.declared.tree.Kind.TheVariants.{Word, Bit}
-use Rattle.op_text.specs.declared.tree.Param.{Param}
-use Rattle.op_text.specs.Rules.{is_among, kind_among}
-use Rattle.op_text.specs.Spelling.{Each}
-use Rattle.op_rules.specs.Meets.{names_of}
-use Rattle.op_rules.proofs.Names.{same_name}
-use Rattle.loop_ir.specs.declared.ir.Space.TheVariants.{Result}
-use Rattle.loop_ir.specs.declared.names.Slot.{Slot}
+use Rattle.uprog_gen.proofs.Common.{◌≡◌, ℕ, ◌+◌, Bool, true, false, cond, List, [], ◌∷◌, ◌++◌, map}
+use Rattle.uprog_gen.proofs.Common.{Option, Some, None, refl, ap, ◌∙◌, subst, bytes_eq, arith}
+use Rattle.uprog_gen.proofs.Common.{map-append, Kind, Word, Bit, Param, is_among, kind_among, Each}
+use Rattle.uprog_gen.proofs.Common.{names_of, same_name, Result, Slot}
 use Rattle.uprog_gen.specs.Laying.{kind_in}
 use Rattle.uprog_gen.specs.Layout.{Lay, slot, source_lays, is_scratch, scratch_slot, own_slot}
 use Rattle.uprog_gen.specs.Layout.{place_in, defined_lays, found}

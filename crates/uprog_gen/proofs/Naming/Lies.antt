@@ -1,19 +1,13 @@
 -- Where the names of an operation lie: in places of their own.
-use Rattle.std.proofs.Common.{◌≡◌, ℕ, suc, ◌+◌, ◌<◌, ◌≤◌, Bool, true, false, not, ◌&&◌, cond, List}
-use Rattle.std.proofs.Common.{[], ◌∷◌, ◌++◌, map, Some, refl, sym, ap, ◌∙◌, arith, ◌⊎◌, inl, inr}
-use Rattle.std.proofs.lemmas.List.Sums.{sum_by-cons}
-use Rattle.std.specs.Prelude.{slice_get, count_by}
-use Rattle.op_text.specs.declared.tree.Kind.{Kind}
-use Rattle.op_text.specs.declared.tree.Kind.TheVariants.{Word, Bit}
-use Rattle.op_text.specs.declared.tree.Param.{Param}
-use Rattle.op_text.specs.Language.{Operation, result_names}
-use Rattle.op_text.specs.Rules.{is_among}
-use Rattle.op_text.specs.WordOps.{same_kind}
-use Rattle.op_text.specs.Scratch.{body_defines, scratch_names}
-use Rattle.op_text.specs.Spelling.{Each}
-use Rattle.op_rules.proofs.Names.{same_name, each_map}
+use Rattle.uprog_gen.proofs.Common.{◌≡◌, ℕ, suc, ◌+◌, ◌<◌, ◌≤◌, Bool, true, false, not, cond, List}
+use Rattle.uprog_gen.proofs.Common.{[], ◌∷◌, ◌++◌, map, Some, refl, sym, ap, ◌∙◌, arith, ◌⊎◌, inl}
+use Rattle.uprog_gen.proofs.Common.{inr, sum_by-cons, slice_get, count_by, Kind, Word, Bit, Param}
+use Rattle.uprog_gen.proofs.Common.{Operation, result_names, is_among, same_kind, body_defines}
+use Rattle.uprog_gen.proofs.Common.{scratch_names, Each, same_name, Result, Source, ScratchBit}
+use Rattle.uprog_gen.proofs.Common.{ScratchWord}
+use Rattle.std.proofs.Common.{◌&&◌}
+use Rattle.op_rules.proofs.Names.{each_map}
 use Rattle.op_rules.proofs.Ops.{each_append}
-use Rattle.loop_ir.specs.declared.ir.Space.TheVariants.{Result, Source, ScratchBit, ScratchWord}
 use Rattle.uprog_gen.specs.Layout.{Lay, slot, source_lays, is_scratch, scratch_slot, defined_lays}
 use Rattle.uprog_gen.specs.Layout.{place_in, lays}
 use Rattle.uprog_gen.proofs.Naming.Lays.{lay, IsShared, AreApartLays}

@@ -1,25 +1,16 @@
 -- Names that come to their places one after another.
-use Rattle.std.proofs.Common.{◌≡◌, ℕ, ◌+◌, ◌<◌, ◌≤◌, Bool, true, false, not, ◌||◌, cond, List, []}
-use Rattle.std.proofs.Common.{◌∷◌, ◌++◌, map, length, take, Some, refl, sym, ap, ◌∙◌, subst, arith}
-use Rattle.std.proofs.Common.{bytes_eq}
-use Rattle.std.specs.Prelude.{count_by, slice_index_or}
-use Rattle.std.specs.List.{filter, list_any}
-use Rattle.std.proofs.lemmas.List.{map-append, take_more}
-use Rattle.std.proofs.lemmas.List.Sums.{sum_by-append, sum_by-cons, count_by-le-length}
-use Rattle.op_text.specs.declared.tree.Kind.{Kind}
-use Rattle.op_text.specs.declared.tree.Kind.TheVariants.{Word, Bit}
-use Rattle.op_text.specs.declared.tree.Param.{Param}
-use Rattle.op_text.specs.declared.tree.State.{State}
+use Rattle.uprog_gen.proofs.Common.{◌≡◌, ℕ, ◌+◌, ◌<◌, ◌≤◌, Bool, true, false, not, ◌||◌, cond, List}
+use Rattle.uprog_gen.proofs.Common.{[], ◌∷◌, ◌++◌, map, length, take, Some, refl, sym, ap, ◌∙◌}
+use Rattle.uprog_gen.proofs.Common.{subst, arith, bytes_eq, count_by, slice_index_or, filter}
+use Rattle.uprog_gen.proofs.Common.{map-append, sum_by-append, sum_by-cons, Kind, Word, Bit, Param}
+use Rattle.uprog_gen.proofs.Common.{State, Equation, Visit, changed, is_among, same_kind, param}
+use Rattle.uprog_gen.proofs.Common.{defines, names_of, Differ, same_name, other_way, NameMap, Slots}
+use Rattle.uprog_gen.proofs.Common.{slots_of}
+use Rattle.std.specs.List.{list_any}
+use Rattle.std.proofs.lemmas.List.{take_more}
+use Rattle.std.proofs.lemmas.List.Sums.{count_by-le-length}
 use Rattle.op_text.specs.declared.tree.Assign.{Assign}
-use Rattle.op_text.specs.Language.{Equation, Visit, equation}
-use Rattle.op_text.specs.Meaning.{changed}
-use Rattle.op_text.specs.Rules.{is_among}
-use Rattle.op_text.specs.WordOps.{same_kind}
-use Rattle.op_text.specs.Scratch.{param, defines}
-use Rattle.op_rules.specs.Meets.{names_of, Differ}
-use Rattle.op_rules.proofs.Names.{same_name, other_way}
-use Rattle.loop_ir.specs.declared.names.NameMap.{NameMap}
-use Rattle.loop_ir.specs.Statements.{Slots, slots_of}
+use Rattle.op_text.specs.Language.{equation}
 use Rattle.uprog_gen.specs.Layout.{Lay, is_scratch, defined_lays, found}
 use Rattle.uprog_gen.specs.Laying.{placed, Lays, states_defined, words_defined}
 use Rattle.uprog_gen.proofs.Naming.Lays.{params_of, found_new, or_else}

@@ -1,39 +1,31 @@
 -- Each statement of an operation that meets the rules meets them at its names' places.
-use Rattle.std.proofs.Common.{◌≡◌, ℕ, ◌+◌, ◌<◌, Bool, true, false, ◌||◌, cond, List, [], ◌∷◌, ◌++◌}
-use Rattle.std.proofs.Common.{map, Option, Some, None, refl, sym, ap, ◌∙◌, subst, arith, bytes_eq}
-use Rattle.std.proofs.Common.{inl, inr, ⊎_elim, append_assoc, append-nil}
+use Rattle.uprog_gen.proofs.Common.{or_left, or_right, ◌≡◌, ℕ, ◌+◌, ◌<◌, Bool, true, false, ◌||◌}
+use Rattle.uprog_gen.proofs.Common.{cond, List, [], ◌∷◌, ◌++◌, map, Option, Some, None, refl, sym}
+use Rattle.uprog_gen.proofs.Common.{ap, ◌∙◌, subst, arith, bytes_eq, inl, inr, ⊎_elim, append_assoc}
+use Rattle.uprog_gen.proofs.Common.{append-nil, option_to_list, AllByRecursion, Kind, Word, Bit}
+use Rattle.uprog_gen.proofs.Common.{Param, WordOp, Term, Nought, Unity, Named, Negation}
+use Rattle.uprog_gen.proofs.Common.{Conjunction, Disjunction, Parity, Majority, Equation, Statement}
+use Rattle.uprog_gen.proofs.Common.{Compute, Visit, Operation, is_among, kind_among, is_known}
+use Rattle.uprog_gen.proofs.Common.{second_of, second_kind, param, state_names, word_names, defines}
+use Rattle.uprog_gen.proofs.Common.{body_defines, kind_of, result_kind, Each, TermMeets, IsNewOf}
+use Rattle.uprog_gen.proofs.Common.{IsKnown, Differ, names_of, let_names, used, can_read, LetsRead}
+use Rattle.uprog_gen.proofs.Common.{Context, next_context, OperationMeets, all_names, is_same}
+use Rattle.uprog_gen.proofs.Common.{other_way, new-left, new-right, new-append, among-append}
+use Rattle.uprog_gen.proofs.Common.{names-append, scratch_is_small, ScratchBit, ScratchWord, Slot}
+use Rattle.uprog_gen.proofs.Common.{Slots, HaveKinds, ComputeMeets, IsPlaced, holds_kind}
+use Rattle.uprog_gen.proofs.Common.{targets_of, block_reads, read_names, written_names}
 use Rattle.std.specs.Prelude.{is_some, unwrap_or}
-use Rattle.std.specs.Option.{option_to_list}
-use Rattle.std.specs.List.{AllByRecursion}
-use Rattle.op_text.specs.declared.tree.Kind.{Kind}
-use Rattle.op_text.specs.declared.tree.Kind.TheVariants.{Word, Bit}
-use Rattle.op_text.specs.declared.tree.Param.{Param}
-use Rattle.op_text.specs.declared.word_ops.WordOp.{WordOp}
-use Rattle.op_text.specs.Language.{Term, Nought, Unity, Named, Negation, Conjunction, Disjunction}
-use Rattle.op_text.specs.Language.{Parity, Majority, Equation, Block, Statement, Compute, Visit}
-use Rattle.op_text.specs.Language.{Operation}
-use Rattle.op_text.specs.Rules.{is_among, kind_among, is_known, second_of}
-use Rattle.op_text.specs.WordOps.{second_kind, second_gives}
-use Rattle.op_text.specs.Scratch.{param, state_names, word_names, defines, body_defines, kind_of}
-use Rattle.op_text.specs.Scratch.{result_kind}
-use Rattle.op_text.specs.Spelling.{Each, TermMeets}
-use Rattle.op_rules.specs.Meets.{IsNewLet, IsNewOf, IsKnown, Differ, names_of, let_names, used}
-use Rattle.op_rules.specs.Meets.{can_read, LetsRead, Context, next_context, OperationMeets}
+use Rattle.op_text.specs.Language.{Block}
+use Rattle.op_text.specs.WordOps.{second_gives}
+use Rattle.op_rules.specs.Meets.{IsNewLet}
+use Rattle.loop_ir.specs.Statements.{HasKind, LetsMeet, AreDistinct, BlockMeets, statement_names}
+use Rattle.loop_ir.specs.Statements.{is_readable}
 use Rattle.op_rules.specs.Meets as rules
-use Rattle.op_rules.specs.Laws.{all_names}
-use Rattle.op_rules.proofs.Names.{is_same, other_way, new-left, new-right, new-append, among-append}
-use Rattle.op_rules.proofs.Standing.{names-append}
-use Rattle.op_rules.proofs.Few.{scratch_is_small}
-use Rattle.loop_ir.specs.declared.ir.Space.TheVariants.{ScratchBit, ScratchWord}
-use Rattle.loop_ir.specs.declared.names.Slot.{Slot}
 use Rattle.loop_ir.specs.Statements as there
-use Rattle.loop_ir.specs.Statements.{Slots, HasKind, HaveKinds, LetsMeet, AreDistinct, ComputeMeets}
-use Rattle.loop_ir.specs.Statements.{BlockMeets, IsPlaced, holds_kind, targets_of, block_reads}
-use Rattle.loop_ir.specs.Statements.{read_names, written_names, statement_names, is_readable}
 use Rattle.uprog_gen.specs.Layout.{IsLayout}
 use Rattle.uprog_gen.proofs.Naming.Lays.{lay}
 use Rattle.uprog_gen.proofs.Naming.Lies.{LiesIn}
-use Rattle.uprog_gen.proofs.Naming.Among.{or_left, or_right, each_among, among_left, among_right}
+use Rattle.uprog_gen.proofs.Naming.Among.{each_among, among_left, among_right}
 use Rattle.uprog_gen.proofs.Naming.Among.{among_split}
 use Rattle.uprog_gen.proofs.Naming.Scene.{known_among, slot_none, slot_lies, slots_apart}
 use Rattle.uprog_gen.proofs.Naming.Stage.{Stage, word_other, written_unknown, written_defined}

@@ -1,28 +1,14 @@
 -- What is true of the names of an operation that meets the rules, where each has its place.
-use Rattle.std.proofs.Common.{◌≡◌, ℕ, ◌<◌, map, true, false, ◌||◌, cond, List, [], ◌∷◌, ◌++◌}
-use Rattle.std.proofs.Common.{Option, Some, None, refl, sym, ap, ◌∙◌, subst, arith, bytes_eq, inl}
-use Rattle.std.proofs.Common.{inr}
-use Rattle.std.proofs.lemmas.Nat.{mul-add-lt}
-use Rattle.std.specs.Prelude.{slice_get}
-use Rattle.std.specs.Option.{option_to_list, option_map}
-use Rattle.op_text.specs.declared.tree.Kind.{Kind}
-use Rattle.op_text.specs.declared.tree.Kind.TheVariants.{Word, Bit}
-use Rattle.op_text.specs.declared.tree.Param.{Param}
-use Rattle.op_text.specs.Language.{Operation, results, result_names}
-use Rattle.op_text.specs.Spelling.{Each}
-use Rattle.op_text.specs.Rules.{is_among, kind_among}
-use Rattle.op_text.specs.Meaning.{width}
-use Rattle.op_text.specs.Scratch.{body_defines, scratch_names, scratch_words}
-use Rattle.op_rules.specs.Meets.{IsNew, names_of, OperationMeets}
-use Rattle.op_rules.specs.Laws.{all_names}
-use Rattle.op_rules.proofs.Names.{same_name}
+use Rattle.uprog_gen.proofs.Common.{◌≡◌, ℕ, ◌<◌, map, true, false, ◌||◌, cond, List, [], ◌∷◌, ◌++◌}
+use Rattle.uprog_gen.proofs.Common.{Option, Some, None, refl, sym, ap, ◌∙◌, subst, arith, bytes_eq}
+use Rattle.uprog_gen.proofs.Common.{inl, inr, mul-add-lt, slice_get, option_to_list, Kind, Word}
+use Rattle.uprog_gen.proofs.Common.{Bit, Param, Operation, result_names, Each, is_among, kind_among}
+use Rattle.uprog_gen.proofs.Common.{width, body_defines, scratch_names, scratch_words, IsNew}
+use Rattle.uprog_gen.proofs.Common.{names_of, OperationMeets, all_names, same_name, op_shape}
+use Rattle.uprog_gen.proofs.Common.{Source, Slot, IsOwn, spot_in, Slots, slot_spot}
+use Rattle.std.specs.Option.{option_map}
+use Rattle.op_text.specs.Language.{results}
 use Rattle.uprog_code.specs.Shape as shape
-use Rattle.uprog_code.specs.Texts.{op_shape}
-use Rattle.loop_ir.specs.declared.ir.Space.TheVariants.{Source}
-use Rattle.loop_ir.specs.declared.names.Slot.{Slot}
-use Rattle.loop_ir.specs.Spots.{IsOwn, spot_in}
-use Rattle.loop_ir.specs.Statements.{Slots}
-use Rattle.loop_ir.specs.Lowered.{slot_spot}
 use Rattle.uprog_gen.specs.Where.{IsSpot, IsBelow}
 use Rattle.uprog_gen.specs.Layout.{Lay, IsLayout, source_lays, place_in, defined_lays, lays, found}
 use Rattle.uprog_gen.specs.Laying.{kind_in}

@@ -1,31 +1,24 @@
 -- What stands before a statement of an operation that meets the rules, and what the statement reads
 -- and sets.
-use Rattle.std.proofs.Common.{◌≡◌, ℕ, ◌+◌, ◌≤◌, Bool, true, false, not, List, [], ◌∷◌, ◌++◌, map}
-use Rattle.std.proofs.Common.{Option, Some, None, refl, sym, ap, ◌∙◌, subst, arith, bytes_eq}
-use Rattle.std.proofs.Common.{⊎_elim, append_assoc, append-nil}
+use Rattle.uprog_gen.proofs.Common.{◌≡◌, ℕ, ◌+◌, ◌≤◌, Bool, true, false, not, List, [], ◌∷◌, ◌++◌}
+use Rattle.uprog_gen.proofs.Common.{map, Option, Some, None, refl, sym, ap, ◌∙◌, subst, arith}
+use Rattle.uprog_gen.proofs.Common.{bytes_eq, ⊎_elim, append_assoc, append-nil, Kind, Word, Bit}
+use Rattle.uprog_gen.proofs.Common.{Param, Term, Nought, Unity, Named, Negation, Conjunction}
+use Rattle.uprog_gen.proofs.Common.{Disjunction, Parity, Majority, Equation, Statement, Compute}
+use Rattle.uprog_gen.proofs.Common.{Visit, Operation, is_among, kind_among, is_known, param}
+use Rattle.uprog_gen.proofs.Common.{state_names, word_names, defines, body_defines, kind_of}
+use Rattle.uprog_gen.proofs.Common.{greatest, need_inside, bits_inside, words_inside, Each}
+use Rattle.uprog_gen.proofs.Common.{TermMeets, IsNew, IsNewOf, IsKnown, names_of, let_names}
+use Rattle.uprog_gen.proofs.Common.{targets, used, can_read, LetsRead, Context, next_context}
+use Rattle.uprog_gen.proofs.Common.{at_start, StatementMeets, BodyMeets, OperationMeets}
+use Rattle.uprog_gen.proofs.Common.{second_kind, all_names, same_name, new-left, new-right}
+use Rattle.uprog_gen.proofs.Common.{new-append, among-append, names-append, Slot, IsOwn, Slots}
+use Rattle.uprog_gen.proofs.Common.{targets_of, block_reads, read_names, written_names}
 use Rattle.std.proofs.lemmas.Bool.{not-true}
-use Rattle.op_text.specs.declared.tree.Kind.{Kind}
-use Rattle.op_text.specs.declared.tree.Kind.TheVariants.{Word, Bit}
-use Rattle.op_text.specs.declared.tree.Param.{Param}
-use Rattle.op_text.specs.Language.{Term, Nought, Unity, Named, Negation, Conjunction, Disjunction}
-use Rattle.op_text.specs.Language.{Parity, Majority, Equation, Block, Statement, Compute, Visit}
-use Rattle.op_text.specs.Language.{Operation}
-use Rattle.op_text.specs.Rules.{is_among, kind_among, is_known}
-use Rattle.op_text.specs.Scratch.{param, state_names, word_names, defines, body_defines, kind_of}
-use Rattle.op_text.specs.Scratch.{greatest, need_inside, bits_inside, words_inside}
-use Rattle.op_text.specs.Spelling.{Each, TermMeets}
-use Rattle.op_rules.specs.Meets.{IsNew, IsNewOf, IsKnown, names_of, let_names, targets, used}
-use Rattle.op_rules.specs.Meets.{can_read, LetsRead, Context, next_context, at_start}
-use Rattle.op_rules.specs.Meets.{StatementMeets, SecondMeets, BodyMeets, OperationMeets}
-use Rattle.op_text.specs.WordOps.{second_kind}
-use Rattle.op_rules.specs.Laws.{all_names}
-use Rattle.op_rules.proofs.Names.{same_name, new-left, new-right, new-append, among-append}
-use Rattle.op_rules.proofs.Standing.{names-append}
+use Rattle.op_text.specs.Language.{Block}
+use Rattle.op_rules.specs.Meets.{SecondMeets}
 use Rattle.op_rules.proofs.Blocks.{block_names}
-use Rattle.loop_ir.specs.declared.names.Slot.{Slot}
-use Rattle.loop_ir.specs.Spots.{IsOwn}
-use Rattle.loop_ir.specs.Statements.{Slots, term_names, equation_names, targets_of, block_reads}
-use Rattle.loop_ir.specs.Statements.{read_names, written_names}
+use Rattle.loop_ir.specs.Statements.{term_names, equation_names}
 use Rattle.uprog_gen.specs.Layout.{IsLayout}
 use Rattle.uprog_gen.proofs.Naming.Among.{each_among, among_left, among_split, filter_among}
 use Rattle.uprog_gen.proofs.Naming.Among.{one_kind}

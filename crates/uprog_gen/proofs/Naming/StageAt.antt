@@ -1,18 +1,13 @@
 -- What stands before each statement of an operation, and the flows so far.
-use Rattle.std.proofs.Common.{◌≡◌, ℕ, zero, suc, ◌+◌, ◌<◌, List, [], ◌∷◌, ◌++◌, map, length, take}
-use Rattle.std.proofs.Common.{sym, ap, ◌∙◌, subst, arith}
-use Rattle.std.specs.Prelude.{slice_index_or}
-use Rattle.std.proofs.lemmas.List.{map-append}
-use Rattle.op_text.specs.declared.tree.Stmt.{Stmt}
-use Rattle.op_text.specs.Language.{Statement, Operation, statement}
-use Rattle.op_rules.specs.Meets.{Context, next_context, at_start, OperationMeets}
-use Rattle.loop_ir.specs.declared.ir.Flow.{Flow}
-use Rattle.loop_ir.specs.Plain.{StepOf, Block, flow_of}
-use Rattle.loop_ir.specs.Statements.{Slots, StatementMeets, IsPlaced}
+use Rattle.uprog_gen.proofs.Common.{◌≡◌, ℕ, zero, suc, ◌+◌, ◌<◌, List, [], ◌∷◌, ◌++◌, map, length}
+use Rattle.uprog_gen.proofs.Common.{take, sym, ap, ◌∙◌, subst, arith, slice_index_or, map-append}
+use Rattle.uprog_gen.proofs.Common.{Stmt, Statement, Operation, statement, Context, next_context}
+use Rattle.uprog_gen.proofs.Common.{at_start, OperationMeets, Flow, StepOf, Block, flow_of, Slots}
+use Rattle.uprog_gen.proofs.Common.{IsPlaced, front}
+use Rattle.loop_ir.specs.Statements.{StatementMeets}
 use Rattle.loop_ir.specs.Lowered.{IsLowered}
-use Rattle.uprog_gen.specs.Layout.{IsLayout}
 use Rattle.word_lower.specs.Forms.{HasForm}
-use Rattle.loop_front.specs.Front.{front}
+use Rattle.uprog_gen.specs.Layout.{IsLayout}
 use Rattle.uprog_gen.specs.Programs.{AreLowered, HaveForms, IsAsWritten, AreWritten}
 use Rattle.uprog_gen.specs.Entries.{AreFronts}
 use Rattle.uprog_gen.proofs.Naming.Stage.{Stage, first_stage, next_stage}

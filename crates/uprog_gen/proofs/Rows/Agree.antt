@@ -1,45 +1,29 @@
 -- The commands of the rounds do to a column what the rounds do to the named rows.
-use Rattle.std.proofs.Common.{◌≡◌, ℕ, zero, suc, ◌+◌, ◌-◌, ◌*◌, ◌<◌, List, [], ◌∷◌, ◌++◌, map}
-use Rattle.std.proofs.Common.{length, refl, sym, ap, ◌∙◌, subst, ⊎_elim, arith, Option, Some, None}
-use Rattle.std.proofs.Common.{◌⊎◌, inl, inr, ◌≤◌, Bool, true, false, cond}
-use Rattle.std.specs.Prelude.{◌&&◌}
-use Rattle.std.specs.List.{list_all}
-use Rattle.std.proofs.lemmas.Bool.{cases_eq, cases_lt, and_parts}
-use Rattle.std.proofs.lemmas.List.{map-append}
+use Rattle.uprog_gen.proofs.Common.{◌≡◌, ℕ, zero, suc, ◌+◌, ◌-◌, ◌*◌, ◌<◌, List, [], ◌∷◌, ◌++◌, map}
+use Rattle.uprog_gen.proofs.Common.{length, refl, sym, ap, ◌∙◌, subst, ⊎_elim, arith, Option, Some}
+use Rattle.uprog_gen.proofs.Common.{None, ◌⊎◌, inl, inr, ◌≤◌, Bool, true, false, cond, ◌&&◌}
+use Rattle.uprog_gen.proofs.Common.{list_all, cases_eq, cases_lt, and_parts, map-append, D, Column}
+use Rattle.uprog_gen.proofs.Common.{value, Shape, Bound, bound, position, BodyRef, BodyCmd, Rows}
+use Rattle.uprog_gen.proofs.Common.{Place, Space, ScratchWord, Cells, Block, RoundOf, sub_value}
+use Rattle.uprog_gen.proofs.Common.{Spot, Spots, nth_place, spot_at, spot_in, nth_spot, IsOwn}
+use Rattle.uprog_gen.proofs.Common.{round_env, after_round, after_rounds, is_state, IsRound}
+use Rattle.uprog_gen.proofs.Common.{IsSmall, lit_at, is_ref, is_first_ref, is_second_ref}
+use Rattle.uprog_gen.proofs.Common.{is_legal_cmd, are_legal, is_held, is_read, reads_rows, StandsIn}
+use Rattle.uprog_gen.proofs.Common.{row_count, enters, states_in, finds, left_by, chained, Held}
 use Rattle.dram_model.specs.declared.address.Addr.TheVariants.{D as AddrD}
-use Rattle.dram_model.specs.declared.address.Cell.TheVariants.{D}
 use Rattle.dram_model.specs.declared.address.Command.TheVariants.{Ap as RowAp}
-use Rattle.dram_model.specs.Column.{Column, run}
+use Rattle.dram_model.specs.Column.{run}
 use Rattle.dram_model.proofs.ColumnLaws.{run-append}
-use Rattle.mig_graph.specs.Graph.{value}
-use Rattle.uprog_code.specs.Shape.{Shape}
-use Rattle.uprog_code.specs.Bound.{Bound, address, bound, bound_command}
-use Rattle.uprog_code.specs.Machine.{position}
-use Rattle.row_alloc.specs.declared.body.BodyRef.{BodyRef}
+use Rattle.uprog_code.specs.Bound.{address, bound_command}
+use Rattle.row_alloc.specs.Rows.{place, bound as placed, run_body, out_at, AreApart}
+use Rattle.loop_laws.proofs.Same.{write_other, write_at}
+use Rattle.row_alloc.specs.Held.{Enters}
 use Rattle.row_alloc.specs.declared.body.BodyRef.TheVariants as ref
-use Rattle.row_alloc.specs.declared.body.BodyCmd.{BodyCmd}
 use Rattle.row_alloc.specs.declared.body.BodyCmd.TheVariants as cmd
-use Rattle.row_alloc.specs.Rows.{Rows, place, bound as placed, run_body, out_at, AreApart}
-use Rattle.loop_ir.specs.declared.ir.Place.{Place}
-use Rattle.loop_ir.specs.declared.ir.Space.{Space}
-use Rattle.loop_ir.specs.declared.ir.Space.TheVariants.{ScratchWord, Cells}
-use Rattle.loop_ir.specs.Plain.{Block}
-use Rattle.loop_ir.specs.Loops.{RoundOf, sub_value}
-use Rattle.loop_ir.specs.Spots.{Spot, Spots, nth_place, spot_at, spot_in, nth_spot, IsOwn}
-use Rattle.loop_ir.specs.Spots.{round_env, after_round, after_rounds, is_state}
 use Rattle.uprog_gen.specs.Where.{spot_row, IsSpot, Agree}
 use Rattle.uprog_gen.specs.Code.{row_space}
 use Rattle.uprog_gen.proofs.Rows.Issued.{round_ref, round_command, rounds_commands}
-use Rattle.loop_ir.specs.Limits.{IsRound, IsSmall}
 use Rattle.uprog_gen.proofs.Rows.Rounds.{IsLaid, round_rows}
-use Rattle.mig_graph.specs.Outputs.{lit_at}
-use Rattle.loop_laws.proofs.Same.{write_other, write_at}
-use Rattle.row_alloc.specs.Legal.{is_ref, is_first_ref, is_second_ref, is_legal_cmd, are_legal}
-use Rattle.row_alloc.specs.Held.{Enters, is_held, is_read, reads_rows}
-use Rattle.row_alloc.specs.Layouts.{StandsIn}
-use Rattle.loop_ir.specs.States.{row_count, enters}
-use Rattle.loop_ir.specs.Chains.{states_in, finds, left_by, chained}
-use Rattle.row_alloc.specs.declared.body.Held.{Held}
 use Rattle.uprog_gen.proofs.Rows.Named.{few, IsNamed, named_ref}
 use Rattle.uprog_gen.proofs.Rows.Alive.{state_spot, AreStanding}
 use Rattle.uprog_gen.proofs.Rows.States.{are_among, held_is, enter_cells, leave_cells}

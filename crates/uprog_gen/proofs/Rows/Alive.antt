@@ -1,10 +1,5 @@
 -- Which states stand in cells between rounds.
-use Rattle.std.proofs.Common.{ℕ, List}
-use Rattle.std.specs.List.{AllByRecursion}
-use Rattle.dram_model.specs.Column.{Column}
-use Rattle.row_alloc.specs.Layouts.{StandsIn}
-use Rattle.loop_ir.specs.declared.ir.Space.TheVariants.{Cells}
-use Rattle.loop_ir.specs.Spots.{Spot, Spots}
+use Rattle.uprog_gen.proofs.Common.{ℕ, List, AllByRecursion, Column, StandsIn, Cells, Spot, Spots}
 
 abbrev pub state_spot : ℕ → Spot
 state_spot w = record { space = Cells; which = w; index = 0 }

@@ -1,10 +1,7 @@
 -- Rounds that find their states alone may stand after any.
-use Rattle.std.proofs.Common.{◌≡◌, ℕ, true, List, [], ◌∷◌, ◌++◌, refl}
-use Rattle.std.specs.List.{list_all}
-use Rattle.std.proofs.lemmas.Bool.{and_parts, and_from}
-use Rattle.loop_ir.specs.Plain.{Block}
-use Rattle.loop_ir.specs.Loops.{RoundOf}
-use Rattle.loop_ir.specs.Chains.{states_in, is_alive, finds, left_by, chained}
+use Rattle.uprog_gen.proofs.Common.{◌≡◌, ℕ, true, List, [], ◌∷◌, ◌++◌, refl, list_all, and_parts}
+use Rattle.uprog_gen.proofs.Common.{and_from, Block, RoundOf, states_in, is_alive, finds, left_by}
+use Rattle.uprog_gen.proofs.Common.{chained}
 
 -- what is found where none is alive is found anywhere
 find_any : (alive ws : List ℕ) → list_all (λ w. is_alive w []) ws ≡ true

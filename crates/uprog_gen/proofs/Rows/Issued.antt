@@ -1,17 +1,13 @@
 -- The commands of rounds, as commands of the trace.
+use Rattle.uprog_gen.proofs.Common.{Issue, position, BodyRef, BodyCmd, Place, RoundOf, sub_value}
+use Rattle.uprog_gen.proofs.Common.{nth_place, Block}
 use Rattle.std.specs.Prelude.{ℕ, List, [], ◌∷◌, ◌++◌, map}
-use Rattle.uprog_code.specs.declared.code.RowSpace.TheVariants as row
 use Rattle.uprog_code.specs.declared.code.RowRef.{RowRef}
-use Rattle.uprog_code.specs.Machine.{Issue, IssueAap, IssueAp, position}
-use Rattle.row_alloc.specs.declared.body.BodyRef.{BodyRef}
+use Rattle.uprog_code.specs.Machine.{IssueAap, IssueAp}
+use Rattle.uprog_code.specs.declared.code.RowSpace.TheVariants as row
 use Rattle.row_alloc.specs.declared.body.BodyRef.TheVariants as ref
-use Rattle.row_alloc.specs.declared.body.BodyCmd.{BodyCmd}
 use Rattle.row_alloc.specs.declared.body.BodyCmd.TheVariants as cmd
-use Rattle.loop_ir.specs.declared.ir.Place.{Place}
-use Rattle.loop_ir.specs.Loops.{RoundOf, sub_value}
-use Rattle.loop_ir.specs.Spots.{nth_place}
 use Rattle.uprog_gen.specs.Code.{row_space}
-use Rattle.loop_ir.specs.Plain.{Block}
 
 -- a place's row, in a command of the trace
 abbrev pub place_row : ℕ → ℕ → List ℕ → Place → RowRef

@@ -1,17 +1,12 @@
 -- A binding that fits gives each own row a place of its own.
-use Rattle.std.proofs.Common.{◌≡◌, ℕ, zero, suc, ◌+◌, ◌-◌, ◌*◌, ◌<◌, List, [], ◌∷◌, sym, ap, ◌∙◌}
-use Rattle.std.proofs.Common.{subst, refl, arith, inl, inr}
-use Rattle.std.specs.Prelude.{slice_get, slice_index}
-use Rattle.std.specs.List.{AllByRecursion}
-use Rattle.op_text.specs.declared.tree.Kind.{Kind}
-use Rattle.uprog_code.specs.Shape.{Shape, width, results}
-use Rattle.uprog_code.specs.Bound.{Bound}
-use Rattle.uprog_code.specs.Fits.{Fits, Range, IsAmong, AreApart, ranges, AreBelow}
-use Rattle.uprog_code.specs.Fits.{ArePairwiseApart, scratch_range, written, IsInSome}
-use Rattle.loop_ir.specs.declared.ir.Space.{Space}
-use Rattle.loop_ir.specs.declared.ir.Space.TheVariants.{Result, Source, ScratchBit, ScratchWord}
-use Rattle.loop_ir.specs.declared.ir.Space.TheVariants.{Cells}
-use Rattle.loop_ir.specs.Spots.{Spot, IsOwn}
+use Rattle.uprog_gen.proofs.Common.{◌≡◌, ℕ, zero, suc, ◌+◌, ◌-◌, ◌*◌, ◌<◌, List, [], ◌∷◌, sym, ap}
+use Rattle.uprog_gen.proofs.Common.{◌∙◌, subst, refl, arith, inl, inr, slice_get, slice_index}
+use Rattle.uprog_gen.proofs.Common.{AllByRecursion, Kind, Shape, results, Bound, Fits, AreBelow}
+use Rattle.uprog_gen.proofs.Common.{Space, Result, Source, ScratchBit, ScratchWord, Cells, Spot}
+use Rattle.uprog_gen.proofs.Common.{IsOwn}
+use Rattle.uprog_code.specs.Shape.{width}
+use Rattle.uprog_code.specs.Fits.{Range, IsAmong, AreApart, ranges, ArePairwiseApart, scratch_range}
+use Rattle.uprog_code.specs.Fits.{written, IsInSome}
 use Rattle.uprog_gen.specs.Where.{row_in, IsIn, IsBelow}
 use Rattle.uprog_gen.proofs.Rows.Rounds.{IsLaid}
 

@@ -1,20 +1,13 @@
 -- Rounds that do the same at the same rows take the same commands, and leave the same bits.
-use Rattle.std.proofs.Common.{◌≡◌, ℕ, zero, suc, ◌+◌, Bool, List, [], ◌∷◌, ◌++◌, length}
-use Rattle.std.proofs.Common.{refl, sym, ap, ◌∙◌}
-use Rattle.std.specs.Prelude.{sum_by, count_by}
-use Rattle.std.proofs.lemmas.List.Sums.{sum_by-cons}
+use Rattle.uprog_gen.proofs.Common.{◌≡◌, ℕ, zero, suc, ◌+◌, Bool, List, [], ◌∷◌, ◌++◌, length, refl}
+use Rattle.uprog_gen.proofs.Common.{sym, ap, ◌∙◌, sum_by, count_by, sum_by-cons, Lit, BodyCmd}
+use Rattle.uprog_gen.proofs.Common.{Place, Block, RoundOf, Spots, spot_at, nth_spot, round_env}
+use Rattle.uprog_gen.proofs.Common.{after_round, after_rounds, is_aap, is_ap, rounds_cost, AreLike}
 use mathlib.Core.Path.{fun_ext}
-use Rattle.mig_graph.specs.declared.Lit.{Lit}
 use Rattle.mig_graph.specs.Graph.{values}
 use Rattle.mig_graph.specs.Literals.{lit_value}
-use Rattle.row_alloc.specs.declared.body.BodyCmd.{BodyCmd}
-use Rattle.loop_ir.specs.declared.ir.Place.{Place}
-use Rattle.loop_ir.specs.Plain.{Block}
-use Rattle.loop_ir.specs.Loops.{RoundOf}
-use Rattle.loop_ir.specs.Spots.{Spots, spot_at, nth_spot, set_spot, write_all}
-use Rattle.loop_ir.specs.Spots.{round_env, after_round, after_rounds}
-use Rattle.loop_ir.specs.Costs.{is_aap, is_ap, rounds_cost}
-use Rattle.loop_front.specs.Like.{IsSameRow, AreSameRows, IsLike, AreLike}
+use Rattle.loop_ir.specs.Spots.{set_spot, write_all}
+use Rattle.loop_front.specs.Like.{IsSameRow, AreSameRows, IsLike}
 use Rattle.uprog_gen.specs.Does.{rounds_counts}
 
 module _ (n : ℕ) where

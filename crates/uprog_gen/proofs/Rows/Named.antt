@@ -1,16 +1,9 @@
 -- Each row that a body's commands name is one of its rows, and no state.
-use Rattle.std.proofs.Common.{◌≡◌, ℕ, ◌+◌, ◌<◌, true, false}
-use Rattle.std.proofs.Common.{length, ap, ◌∙◌, arith}
-use Rattle.std.proofs.lemmas.Bool.{ltb-true}
-use Rattle.row_alloc.specs.declared.body.BodyRef.{BodyRef}
+use Rattle.uprog_gen.proofs.Common.{◌≡◌, ℕ, ◌+◌, ◌<◌, true, false, length, ap, ◌∙◌, arith, ltb-true}
+use Rattle.uprog_gen.proofs.Common.{BodyRef, is_ref, is_held, is_read, nth_place, is_state}
+use Rattle.uprog_gen.proofs.Common.{row_count, enters, Block, IsSmall}
 use Rattle.row_alloc.specs.declared.body.BodyRef.TheVariants as ref
-use Rattle.row_alloc.specs.Legal.{is_ref}
-use Rattle.row_alloc.specs.Held.{is_held, is_read}
-use Rattle.loop_ir.specs.Spots.{nth_place, is_state}
-use Rattle.loop_ir.specs.States.{row_count, enters}
 use Rattle.uprog_gen.proofs.Rows.States.{held_is}
-use Rattle.loop_ir.specs.Plain.{Block}
-use Rattle.loop_ir.specs.Limits.{IsSmall}
 use Rattle.uprog_gen.proofs.Bodies.Outs.{row_few, outs_of, own_outs}
 
 -- a write with a row

@@ -1,14 +1,7 @@
 -- The AAP and the AP of rounds.
-use Rattle.std.proofs.Common.{◌≡◌, ℕ, ◌+◌, Bool, cond, List, [], ◌∷◌, map, refl, sym, ap, ◌∙◌}
-use Rattle.std.specs.Prelude.{count_by, sum_by}
-use Rattle.std.proofs.lemmas.List.Sums.{sum_by-cons, sum_by-append}
-use Rattle.uprog_code.specs.Machine.{Issue}
-use Rattle.uprog_code.specs.Count.{issues_aap, issues_ap}
-use Rattle.row_alloc.specs.declared.body.BodyCmd.{BodyCmd}
-use Rattle.row_alloc.specs.declared.body.BodyCmd.TheVariants.{Aap, Ap}
-use Rattle.loop_ir.specs.Plain.{Block}
-use Rattle.loop_ir.specs.Loops.{RoundOf}
-use Rattle.loop_ir.specs.Costs.{is_aap, is_ap}
+use Rattle.uprog_gen.proofs.Common.{◌≡◌, ℕ, ◌+◌, Bool, cond, List, [], ◌∷◌, map, refl, sym, ap, ◌∙◌}
+use Rattle.uprog_gen.proofs.Common.{count_by, sum_by, sum_by-cons, sum_by-append, Issue, issues_aap}
+use Rattle.uprog_gen.proofs.Common.{issues_ap, BodyCmd, Aap, Ap, Block, RoundOf, is_aap, is_ap}
 use Rattle.uprog_gen.proofs.Rows.Issued.{round_command, rounds_commands}
 
 -- the kinds of commands in a round

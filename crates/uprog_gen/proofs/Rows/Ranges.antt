@@ -1,32 +1,20 @@
 -- The commands of a round are in range.
-use Rattle.std.proofs.Common.{◌≡◌, ℕ, ◌+◌, ◌*◌, true, List, [], ◌∷◌, map, length, refl, arith}
-use Rattle.std.proofs.Common.{Option, Some, None}
-use Rattle.std.specs.Prelude.{slice_get, ◌&&◌}
-use Rattle.std.specs.List.{AllByRecursion, list_all}
-use Rattle.std.proofs.lemmas.Bool.{and_parts, and_from, lt-ltb, eq-eqb}
-use Rattle.op_text.specs.declared.tree.Kind.{Kind}
-use Rattle.op_text.specs.declared.tree.Kind.TheVariants.{Word, Bit}
-use Rattle.uprog_code.specs.Shape.{Shape, results}
-use Rattle.uprog_code.specs.Machine.{position, in_kind, in_space, in_range, all_in_range}
-use Rattle.row_alloc.specs.declared.body.BodyRef.{BodyRef}
+use Rattle.uprog_gen.proofs.Common.{◌≡◌, ℕ, ◌+◌, ◌*◌, true, List, [], ◌∷◌, map, length, refl, arith}
+use Rattle.uprog_gen.proofs.Common.{Option, Some, None, slice_get, ◌&&◌, AllByRecursion, list_all}
+use Rattle.uprog_gen.proofs.Common.{and_parts, and_from, lt-ltb, Kind, Word, Bit, Shape, results}
+use Rattle.uprog_gen.proofs.Common.{position, all_in_range, BodyRef, BodyCmd, Held, is_ref}
+use Rattle.uprog_gen.proofs.Common.{is_first_ref, is_second_ref, is_legal_cmd, are_legal, is_read}
+use Rattle.uprog_gen.proofs.Common.{reads_rows, Space, Result, Source, ScratchBit, ScratchWord}
+use Rattle.uprog_gen.proofs.Common.{Cells, RoundOf, sub_value, nth_place, spot_in, IsRound, IsSmall}
+use Rattle.uprog_gen.proofs.Common.{enters, Block}
+use Rattle.std.proofs.lemmas.Bool.{eq-eqb}
+use Rattle.uprog_code.specs.Machine.{in_kind, in_space, in_range}
 use Rattle.row_alloc.specs.declared.body.BodyRef.TheVariants as ref
-use Rattle.row_alloc.specs.declared.body.BodyCmd.{BodyCmd}
 use Rattle.row_alloc.specs.declared.body.BodyCmd.TheVariants as cmd
-use Rattle.row_alloc.specs.declared.body.Held.{Held}
-use Rattle.row_alloc.specs.Legal.{is_ref, is_first_ref, is_second_ref, is_legal_cmd, are_legal}
-use Rattle.row_alloc.specs.Held.{is_read, reads_rows}
-use Rattle.loop_ir.specs.declared.ir.Space.{Space}
-use Rattle.loop_ir.specs.declared.ir.Space.TheVariants.{Result, Source, ScratchBit, ScratchWord}
-use Rattle.loop_ir.specs.declared.ir.Space.TheVariants.{Cells}
-use Rattle.loop_ir.specs.Loops.{RoundOf, sub_value}
-use Rattle.loop_ir.specs.Spots.{nth_place, spot_in}
 use Rattle.uprog_gen.specs.Where.{IsSpot, IsBelow}
 use Rattle.uprog_gen.specs.Code.{row_space}
 use Rattle.uprog_gen.proofs.Rows.Issued.{round_ref, round_command}
-use Rattle.loop_ir.specs.Limits.{IsRound, IsSmall}
-use Rattle.loop_ir.specs.States.{enters}
 use Rattle.uprog_gen.proofs.Rows.Named.{IsNamed, named_ref}
-use Rattle.loop_ir.specs.Plain.{Block}
 use Rattle.uprog_gen.proofs.Bodies.Outs.{outs_of}
 
 below_kind : (k : Option Kind) (n i : ℕ) → IsBelow k n i → in_kind k n i ≡ true

@@ -1,11 +1,7 @@
 -- The rows of a round in a bank.
+use Rattle.uprog_gen.proofs.Common.{Shape, Bound, Rows, Block, RoundOf, Spot, nth_place, nth_spot}
+use Rattle.uprog_gen.proofs.Common.{IsOwn, is_state}
 use Rattle.std.specs.Prelude.{◌≡◌, ℕ, ◌+◌, ◌-◌, ◌<◌, if◌then◌else◌}
-use Rattle.uprog_code.specs.Shape.{Shape}
-use Rattle.uprog_code.specs.Bound.{Bound}
-use Rattle.row_alloc.specs.Rows.{Rows}
-use Rattle.loop_ir.specs.Plain.{Block}
-use Rattle.loop_ir.specs.Loops.{RoundOf}
-use Rattle.loop_ir.specs.Spots.{Spot, nth_place, nth_spot, IsOwn, is_state}
 use Rattle.uprog_gen.specs.Where.{spot_row, IsSpot}
 
 -- how the operation's rows lie in a bank: none that it may write shares its row with another, and

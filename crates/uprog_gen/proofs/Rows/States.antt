@@ -1,22 +1,14 @@
 -- States stand in their cells before and after a body.
-use Rattle.std.proofs.Common.{◌≡◌, ℕ, zero, suc, ◌+◌, ◌<◌, Bool, true, false, cond, List, []}
-use Rattle.std.proofs.Common.{◌∷◌, length, refl, sym, ap, ◌∙◌, subst, arith}
-use Rattle.std.specs.Prelude.{◌==◌, ◌||◌}
-use Rattle.std.specs.List.{AllByRecursion, list_all}
-use Rattle.std.proofs.lemmas.Bool.{eqb-true, and_parts}
-use Rattle.dram_model.specs.Column.{Column}
-use Rattle.mig_graph.specs.declared.Lit.{Lit}
-use Rattle.mig_graph.specs.Graph.{Graph, value}
-use Rattle.mig_graph.specs.Outputs.{lit_at}
+use Rattle.uprog_gen.proofs.Common.{◌≡◌, ℕ, zero, suc, ◌+◌, ◌<◌, Bool, true, false, cond, List, []}
+use Rattle.uprog_gen.proofs.Common.{◌∷◌, length, refl, sym, ap, ◌∙◌, subst, arith, ◌==◌}
+use Rattle.uprog_gen.proofs.Common.{AllByRecursion, list_all, eqb-true, and_parts, Column, Lit}
+use Rattle.uprog_gen.proofs.Common.{value, lit_at, Space, Cells, Place, is_held, StandsIn, Spots}
+use Rattle.uprog_gen.proofs.Common.{spot_at, nth_place, nth_spot, is_state, enters, leaves}
+use Rattle.uprog_gen.proofs.Common.{states_in, is_alive}
+use Rattle.std.specs.Prelude.{◌||◌}
+use Rattle.mig_graph.specs.Graph.{Graph}
 use Rattle.mig_graph.proofs.Laws.{value-input}
-use Rattle.loop_ir.specs.declared.ir.Space.{Space}
-use Rattle.loop_ir.specs.declared.ir.Space.TheVariants.{Cells}
-use Rattle.loop_ir.specs.declared.ir.Place.{Place}
-use Rattle.row_alloc.specs.Held.{CellsHold, is_held}
-use Rattle.row_alloc.specs.Layouts.{StandsIn}
-use Rattle.loop_ir.specs.Spots.{Spots, spot_at, nth_place, nth_spot, is_state}
-use Rattle.loop_ir.specs.States.{enters, leaves}
-use Rattle.loop_ir.specs.Chains.{states_in, is_alive}
+use Rattle.row_alloc.specs.Held.{CellsHold}
 use Rattle.uprog_gen.proofs.Rows.Alive.{state_spot, AreStanding}
 
 -- a state that is alive stands in its cells

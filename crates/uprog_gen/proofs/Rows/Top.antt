@@ -1,31 +1,18 @@
 -- The code of flows does to every column what the rounds of the statements do to the named rows.
-use Rattle.std.proofs.Common.{◌≡◌, ℕ, ◌+◌, ◌-◌, ◌<◌, ◌≤◌, true, List, [], ◌∷◌, ◌++◌, map, length}
-use Rattle.std.proofs.Common.{refl, sym, ap, ◌∙◌, subst, ⊎_elim, arith, inl, inr}
-use Rattle.std.proofs.Common.{length-append, append_assoc}
-use Rattle.std.specs.List.{AllByRecursion}
-use Rattle.std.proofs.lemmas.List.{length-map}
-use Rattle.std.proofs.lemmas.List.Sums.{sum_by-cons}
-use Rattle.bit_rows.specs.declared.TheConstants.{WIDTH_MAX}
-use Rattle.uprog_code.specs.declared.code.Uop.TheVariants.{Done}
-use Rattle.uprog_code.specs.Shape.{Shape, results}
-use Rattle.uprog_code.specs.declared.walker.Counts.{Counts}
-use Rattle.uprog_code.specs.Count.{counts_of, issues_aap, issues_ap}
-use Rattle.uprog_code.specs.Bound.{Bound}
-use Rattle.uprog_code.specs.Machine.{start, trace, issues_of}
-use Rattle.uprog_code.specs.Fits.{Fits, IsTouched}
-use Rattle.loop_ir.specs.declared.ir.Space.{Space}
-use Rattle.loop_ir.specs.declared.ir.Space.TheVariants.{Result, Source, ScratchBit, ScratchWord}
-use Rattle.loop_ir.specs.declared.ir.Space.TheVariants.{Cells}
-use Rattle.loop_ir.specs.Plain.{Block, StepOf}
-use Rattle.loop_ir.specs.Flows.{FlowOf, flow_size, run as run_of}
-use Rattle.loop_ir.specs.Loops.{RoundOf, step_rounds, all_rounds, rounds_in}
-use Rattle.loop_ir.specs.Limits.{IsRound, stays_in_registers, IsSmall}
-use Rattle.loop_ir.specs.Spots.{Spot, IsOwn}
-use Rattle.loop_ir.specs.Costs.{is_aap, is_ap, body_cost, turn_cost, rounds_cost}
-use Rattle.loop_ir.specs.Chains.{chained}
+use Rattle.uprog_gen.proofs.Common.{◌≡◌, ℕ, ◌+◌, ◌-◌, ◌<◌, ◌≤◌, true, List, [], ◌∷◌, ◌++◌, map}
+use Rattle.uprog_gen.proofs.Common.{length, refl, sym, ap, ◌∙◌, subst, ⊎_elim, arith, inl, inr}
+use Rattle.uprog_gen.proofs.Common.{length-append, append_assoc, AllByRecursion, length-map}
+use Rattle.uprog_gen.proofs.Common.{sum_by-cons, WIDTH_MAX, Done, Shape, results, Counts, counts_of}
+use Rattle.uprog_gen.proofs.Common.{issues_aap, issues_ap, Bound, trace, issues_of, Fits, Space}
+use Rattle.uprog_gen.proofs.Common.{Result, Source, ScratchBit, ScratchWord, Cells, Block, StepOf}
+use Rattle.uprog_gen.proofs.Common.{FlowOf, flow_size, RoundOf, all_rounds, rounds_in, IsRound}
+use Rattle.uprog_gen.proofs.Common.{stays_in_registers, IsSmall, Spot, IsOwn, is_aap, is_ap}
+use Rattle.uprog_gen.proofs.Common.{body_cost, turn_cost, rounds_cost, chained, run_all, AreLike}
+use Rattle.uprog_code.specs.Machine.{start}
+use Rattle.uprog_code.specs.Fits.{IsTouched}
+use Rattle.loop_ir.specs.Flows.{run as run_of}
+use Rattle.loop_ir.specs.Loops.{step_rounds}
 use Rattle.loop_laws.proofs.EveryRound.{all_append}
-use Rattle.loop_laws.proofs.FlowRounds.{run_all}
-use Rattle.loop_front.specs.Like.{AreLike}
 use Rattle.loop_front.specs.FlowOfSteps.{IsFlowOf}
 use Rattle.uprog_gen.specs.Where.{spot_row, row_in, IsSpot, IsIn, spots_in}
 use Rattle.uprog_gen.specs.FlowCode.{code_of}

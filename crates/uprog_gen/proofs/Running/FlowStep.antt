@@ -1,25 +1,16 @@
 -- The code of a flow, whose bodies have their indices in registers.
-use Rattle.std.proofs.Common.{◌≡◌, ℕ, zero, suc, ◌+◌, ◌-◌, ◌*◌, ◌≤◌, Bool, true, cond, List, [], ◌∷◌}
-use Rattle.std.proofs.Common.{◌++◌, map, refl, sym, ap, ◌∙◌, subst, arith, append-nil}
-use Rattle.std.specs.Prelude.{slice_index, nat_lt}
-use Rattle.std.specs.List.{AllByRecursion, list_all}
-use Rattle.std.proofs.lemmas.Bool.{and_parts, lt-ltb, ltb-true}
+use Rattle.uprog_gen.proofs.Common.{◌≡◌, ℕ, zero, suc, ◌+◌, ◌-◌, ◌*◌, ◌≤◌, Bool, true, cond, List}
+use Rattle.uprog_gen.proofs.Common.{[], ◌∷◌, ◌++◌, map, refl, sym, ap, ◌∙◌, subst, arith}
+use Rattle.uprog_gen.proofs.Common.{append-nil, slice_index, nat_lt, AllByRecursion, list_all}
+use Rattle.uprog_gen.proofs.Common.{and_parts, lt-ltb, ltb-true, WIDTH_MAX, Shape, Issue, Uop}
+use Rattle.uprog_gen.proofs.Common.{Place, Sub, Register, Block, FlowOf, EventOf, AllFlow, run}
+use Rattle.uprog_gen.proofs.Common.{Moved, Counted, counts, nests, sub_value, rounds_in}
+use Rattle.uprog_gen.proofs.Common.{stays_in_registers, nth_place, run_all}
 use Rattle.std.proofs.lemmas.List.{get_or_past}
-use Rattle.bit_rows.specs.declared.TheConstants.{WIDTH_MAX}
-use Rattle.uprog_code.specs.Shape.{Shape}
-use Rattle.uprog_code.specs.Machine.{Issue}
-use Rattle.uprog_code.specs.declared.code.Uop.{Uop}
-use Rattle.loop_ir.specs.declared.ir.Place.{Place}
-use Rattle.loop_ir.specs.declared.ir.Sub.{Sub}
-use Rattle.loop_ir.specs.declared.ir.Sub.TheVariants.{Zero, Register}
-use Rattle.loop_ir.specs.Plain.{Block}
-use Rattle.loop_ir.specs.Flows.{FlowOf, EventOf, AllFlow, run}
-use Rattle.loop_ir.specs.Flows.EventOf.{Done, Moved, Counted}
-use Rattle.loop_ir.specs.FlowTests.{counts, nests, is_event_safe}
-use Rattle.loop_ir.specs.Loops.{sub_value, rounds_in}
-use Rattle.loop_ir.specs.Limits.{is_in_register, stays_in_registers}
-use Rattle.loop_ir.specs.Spots.{nth_place}
-use Rattle.loop_laws.proofs.FlowRounds.{run_all}
+use Rattle.loop_ir.specs.declared.ir.Sub.TheVariants.{Zero}
+use Rattle.loop_ir.specs.Flows.EventOf.{Done}
+use Rattle.loop_ir.specs.FlowTests.{is_event_safe}
+use Rattle.loop_ir.specs.Limits.{is_in_register}
 use Rattle.uprog_gen.specs.Code.{register}
 use Rattle.uprog_gen.specs.FlowCode.{code_of, size}
 use Rattle.uprog_gen.proofs.Coding.FlowSizes.{limit, twice}

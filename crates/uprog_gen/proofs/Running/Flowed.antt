@@ -1,26 +1,18 @@
 -- The code of a flow issues the commands of its run, and leaves its registers.
-use Rattle.std.proofs.Common.{◌≡◌, ℕ, zero, suc, ◌+◌, ◌-◌, ◌*◌, ◌<◌, ◌≤◌, Bool, true, false, cond}
-use Rattle.std.proofs.Common.{not, List, [], ◌∷◌, ◌++◌, length, Some, refl, sym, ap, ◌∙◌, subst}
-use Rattle.std.proofs.Common.{arith, append_assoc, append-nil, length-set, get_or-set_same}
-use Rattle.std.proofs.Common.{get_or-set_other}
-use Rattle.std.specs.Prelude.{slice_get, slice_set, slice_index, ◌==◌}
-use Rattle.std.specs.List.{AllByRecursion}
-use Rattle.std.proofs.lemmas.Bool.{le-leb, leb-true, eqb-true, eqb-false, ne_eqb}
-use Rattle.std.proofs.lemmas.Bool.{ltb-true}
-use Rattle.std.proofs.Math.Nat.{mul-le-mul_right}
-use Rattle.uprog_code.specs.Shape.{Shape}
-use Rattle.uprog_code.specs.Machine.{Issue, act, issue}
-use Rattle.uprog_code.specs.declared.code.Uop.{Uop}
+use Rattle.uprog_gen.proofs.Common.{◌≡◌, ℕ, zero, suc, ◌+◌, ◌-◌, ◌*◌, ◌<◌, ◌≤◌, Bool, true, false}
+use Rattle.uprog_gen.proofs.Common.{cond, not, List, [], ◌∷◌, ◌++◌, length, Some, refl, sym, ap}
+use Rattle.uprog_gen.proofs.Common.{◌∙◌, subst, arith, append_assoc, append-nil, length-set}
+use Rattle.uprog_gen.proofs.Common.{slice_get, slice_set, slice_index, ◌==◌, AllByRecursion}
+use Rattle.uprog_gen.proofs.Common.{eqb-true, ltb-true, mul-le-mul_right, Shape, Issue, act, issue}
+use Rattle.uprog_gen.proofs.Common.{Uop, Move, SetI, SetN, SetT, Mov, AddI, SubI, Add, FlowOf}
+use Rattle.uprog_gen.proofs.Common.{TurnsOf, EventOf, run, End, Do, Put, If, Loop, Last, Turn}
+use Rattle.uprog_gen.proofs.Common.{Moved, Counted, is_low, all_keep, counts, all_count, Block}
+use Rattle.std.proofs.Common.{get_or-set_same, get_or-set_other}
+use Rattle.std.proofs.lemmas.Bool.{le-leb, leb-true, eqb-false, ne_eqb}
+use Rattle.loop_ir.specs.Flows.{RunOf, nothing, moved, cycle, behind, acts}
+use Rattle.loop_ir.specs.Flows.EventOf.{Done}
+use Rattle.loop_ir.specs.FlowTests.{is_safe, target, keeps}
 use Rattle.uprog_code.specs.declared.code.Uop.TheVariants as uop
-use Rattle.loop_ir.specs.declared.ir.Move.{Move}
-use Rattle.loop_ir.specs.declared.ir.Move.TheVariants.{SetI, SetN, SetT, Mov, AddI, SubI, Add}
-use Rattle.loop_ir.specs.Flows.{FlowOf, TurnsOf, EventOf, RunOf, nothing, moved, cycle, behind, run, acts}
-use Rattle.loop_ir.specs.Flows.FlowOf.{End, Do, Put, If, Loop}
-use Rattle.loop_ir.specs.Flows.TurnsOf.{Last, Turn}
-use Rattle.loop_ir.specs.Flows.EventOf.{Done, Moved, Counted}
-use Rattle.loop_ir.specs.FlowTests.{is_safe, target, is_low, keeps}
-use Rattle.loop_ir.specs.FlowTests.{all_keep, counts, all_count}
-use Rattle.loop_ir.specs.Plain.{Block}
 use Rattle.uprog_gen.specs.Code.{body_uops}
 use Rattle.uprog_gen.specs.FlowCode.{uop_of, leave, size, turns_size, code_of, turns_code}
 use Rattle.uprog_gen.proofs.Coding.FlowSizes.{limit, turns_limit, code_long, turns_long}

@@ -1,23 +1,13 @@
 -- The code's rows, with the registers as they stand in a round, are the round's.
-use Rattle.std.proofs.Common.{◌≡◌, ℕ, ◌+◌, true, List, [], ◌∷◌, map, length, Some, refl}
-use Rattle.std.proofs.Common.{ap, ◌∙◌, arith}
-use Rattle.std.specs.Prelude.{slice_get, slice_index}
-use Rattle.std.specs.List.{AllByRecursion}
+use Rattle.uprog_gen.proofs.Common.{◌≡◌, ℕ, ◌+◌, true, List, [], ◌∷◌, map, length, Some, refl, ap}
+use Rattle.uprog_gen.proofs.Common.{◌∙◌, arith, slice_get, slice_index, AllByRecursion, Uop, Shape}
+use Rattle.uprog_gen.proofs.Common.{Issue, Trace, issue, onto, all_in_range, BodyRef, BodyCmd, Sub}
+use Rattle.uprog_gen.proofs.Common.{Space, ScratchBit, Cells, Block, RoundOf, sub_value, nth_place}
 use Rattle.uprog_code.specs.Machine.Issue.{IssueAap, IssueAp}
-use Rattle.uprog_code.specs.declared.code.Uop.{Uop}
-use Rattle.uprog_code.specs.Shape.{Shape}
-use Rattle.uprog_code.specs.Machine.{Issue, Trace, issue, issued, onto, row_at, all_in_range}
+use Rattle.uprog_code.specs.Machine.{issued, row_at}
 use Rattle.uprog_gen.proofs.Running.Goes.{HasAt, one}
-use Rattle.row_alloc.specs.declared.body.BodyRef.{BodyRef}
 use Rattle.row_alloc.specs.declared.body.BodyRef.TheVariants as ref
-use Rattle.row_alloc.specs.declared.body.BodyCmd.{BodyCmd}
 use Rattle.row_alloc.specs.declared.body.BodyCmd.TheVariants as cmd
-use Rattle.loop_ir.specs.declared.ir.Sub.{Sub}
-use Rattle.loop_ir.specs.declared.ir.Space.{Space}
-use Rattle.loop_ir.specs.declared.ir.Space.TheVariants.{ScratchBit, Cells}
-use Rattle.loop_ir.specs.Plain.{Block}
-use Rattle.loop_ir.specs.Loops.{RoundOf, sub_value}
-use Rattle.loop_ir.specs.Spots.{nth_place}
 use Rattle.uprog_gen.specs.Code.{row_space, register, place_ref, code_ref, code_uop}
 use Rattle.uprog_gen.proofs.Rows.Issued.{place_row, round_ref, round_command}
 use Rattle.uprog_gen.proofs.Running.Runs.{Runs, run_then, run_none, run_at}

@@ -1,16 +1,10 @@
 -- The code of flows, one after another, issues the commands of all their rounds.
-use Rattle.std.proofs.Common.{◌≡◌, ℕ, suc, ◌+◌, ◌-◌, ◌*◌, ◌<◌, ◌≤◌, List, [], ◌∷◌, ◌++◌, map, length}
-use Rattle.std.proofs.Common.{Some, refl, sym, ap, ◌∙◌, subst, arith, append-nil, append_assoc}
-use Rattle.std.proofs.Common.{length-append}
-use Rattle.std.specs.Prelude.{slice_get}
-use Rattle.bit_rows.specs.declared.TheConstants.{WIDTH_MAX}
+use Rattle.uprog_gen.proofs.Common.{◌≡◌, ℕ, suc, ◌+◌, ◌-◌, ◌*◌, ◌<◌, ◌≤◌, List, [], ◌∷◌, ◌++◌, map}
+use Rattle.uprog_gen.proofs.Common.{length, Some, refl, sym, ap, ◌∙◌, subst, arith, append-nil}
+use Rattle.uprog_gen.proofs.Common.{append_assoc, length-append, slice_get, WIDTH_MAX, Ended, issue}
+use Rattle.uprog_gen.proofs.Common.{trace, Uop, Done, Shape, FlowOf, run, RoundOf, rounds_in, Block}
 use Rattle.uprog_code.specs.declared.TheConstants.{WALK_MAX}
-use Rattle.uprog_code.specs.Machine.{Ended, issue, trace, start}
-use Rattle.uprog_code.specs.declared.code.Uop.{Uop}
-use Rattle.uprog_code.specs.declared.code.Uop.TheVariants.{Done}
-use Rattle.uprog_code.specs.Shape.{Shape}
-use Rattle.loop_ir.specs.Flows.{FlowOf, run}
-use Rattle.loop_ir.specs.Loops.{RoundOf, rounds_in}
+use Rattle.uprog_code.specs.Machine.{start}
 use Rattle.uprog_gen.specs.FlowCode.{code_of, size}
 use Rattle.uprog_gen.proofs.Coding.FlowSizes.{code_long, flows_code}
 use Rattle.uprog_gen.proofs.Rows.Issued.{round_command, rounds_commands}
@@ -18,7 +12,6 @@ use Rattle.uprog_gen.proofs.Running.Goes.{HasAt, has_front, has_back, has_all, G
 use Rattle.uprog_gen.proofs.Running.Runs.{Runs, run_then, run_none, run_at}
 use Rattle.uprog_gen.proofs.Running.Flowed.{Alike}
 use Rattle.uprog_gen.proofs.Running.FlowStep.{CanRun, run_flow}
-use Rattle.loop_ir.specs.Plain.{Block}
 
 -- the rounds of flows, each from the registers that the one before it left
 abbrev pub flows_rounds : ℕ → List (FlowOf Block) → List ℕ → List (RoundOf Block)

@@ -1,11 +1,8 @@
 -- Runs of code with what is known of the registers.
-use Rattle.std.proofs.Common.{◌≡◌, ℕ, ◌+◌, ◌≤◌, Bool, true, false, cond, List, [], ◌++◌, Some, refl}
-use Rattle.std.proofs.Common.{subst, arith}
-use Rattle.std.specs.Prelude.{slice_get, slice_index, ◌==◌}
-use Rattle.uprog_code.specs.Machine.{Issue, act, issue}
-use Rattle.uprog_code.specs.declared.code.Uop.{Uop}
+use Rattle.uprog_gen.proofs.Common.{◌≡◌, ℕ, ◌+◌, ◌≤◌, Bool, true, false, cond, List, [], ◌++◌, Some}
+use Rattle.uprog_gen.proofs.Common.{refl, subst, arith, slice_get, slice_index, ◌==◌, Issue, act}
+use Rattle.uprog_gen.proofs.Common.{issue, Uop, Shape}
 use Rattle.uprog_code.specs.declared.code.Uop.TheVariants.{Bnez}
-use Rattle.uprog_code.specs.Shape.{Shape}
 use Rattle.uprog_gen.proofs.Running.Goes.{Goes, stays, then_goes, moves}
 
 -- at most so many instructions go from one place to another, issue these commands, and leave

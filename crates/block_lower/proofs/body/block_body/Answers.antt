@@ -1,9 +1,6 @@
-use Rattle.std.proofs.Common.{sym, subst, arith, ◌∙◌, ap}
-use Rattle.std.proofs.lemmas.List.{length-map}
-use Rattle.op_text.specs.Language.{equation}
+use Rattle.block_lower.proofs.Common.{sym, subst, arith, ◌∙◌, ap, length-map, equation, slots_of}
 use Rattle.mig_rewrite.proofs.Keeping.{keeps-twice}
 use Rattle.loop_ir.specs.Plain.{Block}
-use Rattle.loop_ir.specs.Statements.{slots_of}
 use Rattle.block_lower.specs.Inputs.{AreNumbered, block_from}
 use Rattle.block_lower.specs.Form.{places_of, IsBlockBody}
 use Rattle.block_lower.specs.Choice.{AreFor}

@@ -1,4 +1,4 @@
-use Rattle.std.proofs.Common.{subst, IfSome}
+use Rattle.block_lower.proofs.Common.{subst, IfSome}
 use Rattle.block_lower.specs.Choice.{IsCounted}
 use Rattle.block_lower.proofs.Counting.{next-counted, next-dropped, told-none}
 use Rattle.block_lower.proofs.choice.all_counted.Goals.{in-Some+in_ok-keep, in_default}

@@ -1,4 +1,4 @@
-use Rattle.std.proofs.Common.{map, take}
+use Rattle.block_lower.proofs.Common.{map, take}
 use Rattle.block_lower.specs.Choice.{AreCounted, sketch_of}
 use Rattle.block_lower.proofs.choice.all_counted.Given as goal
 

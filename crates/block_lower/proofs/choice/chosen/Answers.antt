@@ -1,5 +1,5 @@
-use Rattle.std.proofs.Common.{length, subst, refl, inr, IfSome, IfNone}
-use Rattle.std.proofs.lemmas.Result.{IfOk-weaker}
+use Rattle.block_lower.proofs.Common.{length, subst, refl, inr, IfSome, IfOk-weaker}
+use Rattle.std.proofs.Common.{IfNone}
 use Rattle.block_lower.specs.Choice.{HasFound, IsUnfit}
 use Rattle.block_lower.proofs.Counting.{no-dearer, none-fewer}
 use Rattle.block_lower.proofs.choice.chosen.Goals as goal

@@ -1,5 +1,4 @@
-use Rattle.std.proofs.Common.{◌≤◌, length, subst, inr, IfSome}
-use Rattle.mig_graph.specs.Outputs.{AreNamed, KeepsOutputs}
+use Rattle.block_lower.proofs.Common.{◌≤◌, length, subst, inr, IfSome, AreNamed, KeepsOutputs}
 use Rattle.block_lower.proofs.Counting.{told-none}
 use Rattle.block_lower.proofs.Fitting.{unfit_first}
 use Rattle.block_lower.proofs.choice.counted.Goals as goal

@@ -1,5 +1,5 @@
-use Rattle.std.proofs.Common.{◌≡◌, ◌<◌, ◌≤◌, length, take, Some}
-use Rattle.std.specs.Prelude.{IfSome, IfNone, slice_get}
+use Rattle.block_lower.proofs.Common.{◌≡◌, ◌<◌, ◌≤◌, length, take, Some, IfNone}
+use Rattle.std.specs.Prelude.{IfSome, slice_get}
 use Rattle.block_lower.specs.declared.choice.Choice.{Choice}
 use Rattle.block_lower.specs.Choice.{AreNoFewer}
 use Rattle.block_lower.proofs.choice.fewest.Given as goal

@@ -1,4 +1,4 @@
-use Rattle.std.proofs.Common.{map}
+use Rattle.block_lower.proofs.Common.{map}
 use Rattle.block_lower.specs.Choice.{sketch_of}
 use Rattle.block_lower.proofs.Counting.{all-right}
 use Rattle.block_lower.proofs.choice.least_graph.Goals as goal

@@ -1,5 +1,4 @@
-use Rattle.std.proofs.Common.{length}
-use Rattle.std.proofs.lemmas.Result.{IfOk-weaker}
+use Rattle.block_lower.proofs.Common.{length, IfOk-weaker}
 use Rattle.block_lower.proofs.Counting.{fewer-too}
 use Rattle.block_lower.proofs.choice.least_of.Goals as goal
 

@@ -1,6 +1,5 @@
-use Rattle.std.proofs.Common.{◌≡◌, ◌+◌, ◌-◌, ◌∷◌, [], ap, ◌∙◌, arith, inl, inr}
-use Rattle.std.proofs.lemmas.Bool.{cases_eq}
-use Rattle.mig_graph.specs.Graph.{node_at}
+use Rattle.block_lower.proofs.Common.{◌≡◌, ◌+◌, ◌-◌, ◌∷◌, [], ap, ◌∙◌, arith, inl, inr, cases_eq}
+use Rattle.block_lower.proofs.Common.{node_at}
 use Rattle.block_lower.proofs.SameGraphs.{node-same, graph-same}
 use Rattle.block_lower.proofs.copied.are_same.Goals as goal
 

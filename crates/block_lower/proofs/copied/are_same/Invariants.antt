@@ -1,5 +1,4 @@
-use Rattle.std.proofs.Common.{◌≡◌, ℕ, ◌+◌, ◌<◌}
-use Rattle.mig_graph.specs.Graph.{node_at}
+use Rattle.block_lower.proofs.Common.{◌≡◌, ℕ, ◌+◌, ◌<◌, node_at}
 use Rattle.block_lower.proofs.copied.are_same.Given as goal
 
 -- the nodes so far are the same

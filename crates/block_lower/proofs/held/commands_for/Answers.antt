@@ -1,10 +1,5 @@
-use Rattle.std.proofs.Common.{◌≡◌, sym, subst, ◌∙◌, ap}
-use Rattle.std.proofs.lemmas.Option.{IfSome_then}
-use Rattle.std.proofs.lemmas.Result.{IfOk-weaker}
-use Rattle.row_alloc.specs.Held.{DoesHeld}
-use Rattle.loop_ir.specs.Outputs.{AreRows}
-use Rattle.loop_ir.specs.States.{enters, leaves}
-use Rattle.loop_ir.proofs.Outs.{one-rows}
+use Rattle.block_lower.proofs.Common.{◌≡◌, sym, subst, ◌∙◌, ap, IfSome_then, IfOk-weaker, DoesHeld}
+use Rattle.block_lower.proofs.Common.{AreRows, enters, leaves, one-rows}
 use Rattle.block_lower.proofs.held.commands_for.Goals as goal
 
 pub returns : goal.returns

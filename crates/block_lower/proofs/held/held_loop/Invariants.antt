@@ -1,5 +1,4 @@
-use Rattle.std.proofs.Common.{◌≤◌, IfSome}
-use Rattle.loop_ir.specs.Plain.{block_of}
+use Rattle.block_lower.proofs.Common.{◌≤◌, IfSome, block_of}
 use Rattle.block_lower.specs.Held.{IsLoopFor}
 use Rattle.block_lower.proofs.held.held_loop.Given as goal
 

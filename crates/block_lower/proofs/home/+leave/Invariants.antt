@@ -1,4 +1,4 @@
-use Rattle.std.proofs.Common.{length}
+use Rattle.block_lower.proofs.Common.{length}
 use Rattle.block_lower.proofs.home.+leave.Given as goal
 
 abbrev pub decreases-leave : goal.decreases-leave

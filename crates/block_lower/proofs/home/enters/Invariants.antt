@@ -1,5 +1,5 @@
-use Rattle.std.proofs.Common.{◌≡◌, ◌++◌, drop}
-use Rattle.loop_ir.specs.States.{enters}
+use Rattle.block_lower.proofs.Common.{◌≡◌, ◌++◌, enters}
+use Rattle.std.proofs.Common.{drop}
 use Rattle.block_lower.proofs.home.enters.Given as goal
 
 abbrev pub invariant-loop-k : goal.invariant-loop-k

@@ -1,4 +1,4 @@
-use Rattle.std.proofs.Common.{◌≡◌, take, map}
+use Rattle.block_lower.proofs.Common.{◌≡◌, take, map}
 use Rattle.block_lower.specs.Held.{held_place}
 use Rattle.block_lower.proofs.home.held_places.Given as goal
 

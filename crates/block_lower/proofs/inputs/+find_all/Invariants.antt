@@ -1,4 +1,4 @@
-use Rattle.std.proofs.Common.{length}
+use Rattle.block_lower.proofs.Common.{length}
 use Rattle.block_lower.proofs.inputs.+find_all.Given as goal
 
 abbrev pub decreases-find_all : goal.decreases-find_all

@@ -1,5 +1,5 @@
-use Rattle.std.proofs.Common.{◌≡◌, ◌++◌, ◌∷◌, [], length, sym, subst, bytes_eq, Some, ◌∙◌, ap}
-use Rattle.indexmap.specs.IndexMap.{get}
+use Rattle.block_lower.proofs.Common.{◌≡◌, ◌++◌, ◌∷◌, [], length, sym, subst, bytes_eq, Some, ◌∙◌}
+use Rattle.block_lower.proofs.Common.{ap, get}
 use Rattle.block_lower.specs.Inputs.{AreNumbered}
 use Rattle.block_lower.proofs.Gathering.{numbered-more}
 use Rattle.block_lower.proofs.inputs.number.Goals as goal

@@ -1,6 +1,4 @@
-use Rattle.std.proofs.Common.{refl, inl}
-use Rattle.std.proofs.lemmas.Result.{IfOk-weaker}
-use Rattle.loop_ir.specs.Plain.{block_of}
+use Rattle.block_lower.proofs.Common.{refl, inl, IfOk-weaker, block_of}
 use Rattle.block_lower.proofs.lower.block_loop.Goals as goal
 
 -- with the states in rows

@@ -1,8 +1,5 @@
-use Rattle.std.proofs.Common.{sym, IfSome, subst, arith, inl, inr, refl}
-use Rattle.std.proofs.lemmas.Option.{IfSome_then}
-use Rattle.std.proofs.lemmas.Result.{IfOk-weaker}
-use Rattle.loop_ir.specs.Statements.{slots_of}
-use Rattle.loop_ir.specs.Plain.{block_of, steps_of}
+use Rattle.block_lower.proofs.Common.{sym, IfSome, subst, arith, inl, inr, refl, IfSome_then}
+use Rattle.block_lower.proofs.Common.{IfOk-weaker, slots_of, block_of, steps_of}
 use Rattle.block_lower.specs.Choice.{IsOther}
 use Rattle.block_lower.specs.Held.{IsLoopFor}
 use Rattle.block_lower.proofs.OneCell.{loop-chosen, one-item}

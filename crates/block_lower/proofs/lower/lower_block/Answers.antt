@@ -1,6 +1,4 @@
-use Rattle.std.proofs.Common.{arith}
-use Rattle.std.proofs.lemmas.Result.{IfOk-weaker}
-use Rattle.loop_ir.specs.Plain.{steps_of}
+use Rattle.block_lower.proofs.Common.{arith, IfOk-weaker, steps_of}
 use Rattle.block_lower.proofs.Facts.{Given}
 use Rattle.block_lower.proofs.InRows.{body-found}
 use Rattle.block_lower.proofs.Making.{inputs-few}

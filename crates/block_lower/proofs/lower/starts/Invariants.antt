@@ -1,6 +1,5 @@
-use Rattle.std.proofs.Common.{◌≡◌, take, map}
+use Rattle.block_lower.proofs.Common.{◌≡◌, take, map, slots_of}
 use Rattle.loop_ir.specs.Plain.{step_of}
-use Rattle.loop_ir.specs.Statements.{slots_of}
 use Rattle.block_lower.specs.Form.{start}
 use Rattle.block_lower.proofs.lower.starts.Given as goal
 

@@ -1,5 +1,4 @@
-use Rattle.std.proofs.Common.{◌≡◌, take}
-use Rattle.loop_ir.specs.Statements.{slots_of}
+use Rattle.block_lower.proofs.Common.{◌≡◌, take, slots_of}
 use Rattle.block_lower.specs.Form.{places_of}
 use Rattle.block_lower.proofs.places.places_of.Given as goal
 

@@ -1,6 +1,4 @@
-use Rattle.std.proofs.Common.{◌≡◌, take, map}
-use Rattle.op_text.specs.Language.{equation}
-use Rattle.loop_ir.specs.Statements.{slots_of, targets_of}
+use Rattle.block_lower.proofs.Common.{◌≡◌, take, map, equation, slots_of, targets_of}
 use Rattle.block_lower.specs.Form.{places_of}
 use Rattle.block_lower.proofs.places.target_places.Given as goal
 

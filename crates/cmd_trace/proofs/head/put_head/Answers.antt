@@ -1,5 +1,5 @@
-use Rattle.std.proofs.Common.{◌+◌, ◌*◌, List, ℕ, length, ap, subst, arith, ◌∙◌}
-use Rattle.std.specs.Int.{to_le_bytes, w16, w32}
+use Rattle.cmd_trace.proofs.Common.{◌+◌, ◌*◌, List, ℕ, length, ap, subst, arith, ◌∙◌, to_le_bytes}
+use Rattle.cmd_trace.proofs.Common.{w16, w32}
 use Rattle.cmd_trace.specs.Places.{IsPut}
 use Rattle.cmd_trace.proofs.Places.{head_put}
 use Rattle.cmd_trace.proofs.head.put_head.Goals as goal

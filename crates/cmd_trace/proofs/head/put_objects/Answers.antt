@@ -1,8 +1,5 @@
-use Rattle.std.proofs.Common.{◌≡◌, ◌+◌, ◌*◌, List, ℕ, length, take, ap, sym, ◌∙◌, arith}
-use Rattle.std.proofs.Common.{length-append, refl, subst}
-use Rattle.std.specs.List.{flat_map}
-use Rattle.object_alloc.specs.Listed.{Named}
-use Rattle.object_alloc.specs.Spelling.{object_bytes}
+use Rattle.cmd_trace.proofs.Common.{◌≡◌, ◌+◌, ◌*◌, List, ℕ, length, take, ap, sym, ◌∙◌, arith}
+use Rattle.cmd_trace.proofs.Common.{length-append, refl, subst, flat_map, Named, object_bytes}
 use Rattle.object_alloc.proofs.Written.{objects_more}
 use Rattle.cmd_trace.specs.Places.{IsPut}
 use Rattle.cmd_trace.proofs.Places.{put_none, put_then, put_length}

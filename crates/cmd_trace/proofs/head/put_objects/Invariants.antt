@@ -1,6 +1,4 @@
-use Rattle.std.proofs.Common.{◌≡◌, ◌*◌, length, take}
-use Rattle.std.specs.List.{flat_map}
-use Rattle.object_alloc.specs.Spelling.{object_bytes}
+use Rattle.cmd_trace.proofs.Common.{◌≡◌, ◌*◌, length, take, flat_map, object_bytes}
 use Rattle.cmd_trace.specs.Places.{IsPut}
 use Rattle.cmd_trace.proofs.head.put_objects.Given as goal
 

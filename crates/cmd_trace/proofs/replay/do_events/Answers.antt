@@ -1,12 +1,7 @@
-use Rattle.std.proofs.Common.{◌≡◌, ◌∷◌, ◌++◌, [], List, ap, arith, subst, ◌∙◌, sym, length}
-use Rattle.std.proofs.Common.{append_assoc, append-nil, ◌+◌, ◌-◌}
-use Rattle.dram_model.specs.declared.dram.Counters.{Counters}
-use Rattle.dram_model.specs.declared.geometry.Geometry.{Geometry}
-use Rattle.dram_model.specs.Chip.{Event}
-use Rattle.dram_model.specs.View.{Did}
+use Rattle.cmd_trace.proofs.Common.{◌≡◌, ◌∷◌, ◌++◌, [], List, ap, arith, subst, ◌∙◌, sym, length}
+use Rattle.cmd_trace.proofs.Common.{append_assoc, append-nil, ◌+◌, ◌-◌, Counters, Geometry, Event}
+use Rattle.cmd_trace.proofs.Common.{Did, IsEvent, events_at}
 use Rattle.dram_model.proofs.EventLaws.{Did-more, Kept-more, counted-bound}
-use Rattle.trace_model.specs.Spelling.{IsEvent}
-use Rattle.trace_model.specs.Reading.{events_at}
 use Rattle.cmd_trace.specs.Opened.{event_of}
 use Rattle.cmd_trace.specs.Tape.{events_read}
 use Rattle.cmd_trace.proofs.Replaying.{event_fits, left_more, no_fault, none_left, read_more}

@@ -1,7 +1,5 @@
-use Rattle.std.proofs.Common.{◌≡◌, ◌+◌, ◌-◌, ◌^◌, ◌<◌, ◌≤◌, ◌++◌, List, length}
-use Rattle.dram_model.specs.Chip.{Event}
-use Rattle.dram_model.specs.View.{Kept, Did}
-use Rattle.trace_model.specs.Reading.{events_at}
+use Rattle.cmd_trace.proofs.Common.{◌≡◌, ◌+◌, ◌-◌, ◌^◌, ◌<◌, ◌≤◌, ◌++◌, List, length, Event, Kept}
+use Rattle.cmd_trace.proofs.Common.{Did, events_at}
 use Rattle.cmd_trace.specs.Tape.{events_read}
 use Rattle.cmd_trace.proofs.Replaying.{Left}
 use Rattle.cmd_trace.proofs.replay.do_events.Given as goal

@@ -1,4 +1,4 @@
-use Rattle.std.proofs.Common.{◌∷◌, ◌++◌, [], arith}
+use Rattle.cmd_trace.proofs.Common.{◌∷◌, ◌++◌, [], arith}
 use Rattle.std.proofs.lemmas.Result.{err_from_is_err_and}
 use Rattle.cmd_trace.specs.Opened.{event_of}
 use Rattle.cmd_trace.proofs.Checking.{events_end, events_fault, events_more, all_left}

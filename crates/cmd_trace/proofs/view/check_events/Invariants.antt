@@ -1,6 +1,4 @@
-use Rattle.std.proofs.Common.{◌≡◌, ◌-◌, ◌≤◌, List, length}
-use Rattle.dram_model.specs.Chip.{Event}
-use Rattle.trace_model.specs.Reading.{events_at}
+use Rattle.cmd_trace.proofs.Common.{◌≡◌, ◌-◌, ◌≤◌, List, length, Event, events_at}
 use Rattle.cmd_trace.proofs.Checking.{with_front}
 use Rattle.cmd_trace.proofs.view.check_events.Given as goal
 

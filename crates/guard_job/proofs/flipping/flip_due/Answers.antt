@@ -1,10 +1,9 @@
-use Rattle.std.proofs.Common.{arith, rules, ◌+◌, ◌∙◌, sym, ap, get_or, length, drop, List}
-use Rattle.guard_model.specs.declared.Flip.{Flip}
-use Rattle.guard_model.specs.Flips.{all_flipped, due}
+use Rattle.guard_job.proofs.Common.{arith, ◌+◌, ◌∙◌, sym, ap, get_or, length, drop, List, Flip}
+use Rattle.guard_job.proofs.Common.{all_flipped, due, on_err_always}
+use Rattle.std.proofs.Common.{rules}
+use Rattle.transpose_unit.proofs.Stopping.{stopped_first}
 use Rattle.guard_job.proofs.Due.{cells_after, log_goes_on, no_more_log, not_due}
 use Rattle.guard_job.proofs.Due.{one_due, sorted_after}
-use Rattle.tmr_guard.proofs.Left.{on_err_always}
-use Rattle.transpose_unit.proofs.Stopping.{stopped_first}
 use Rattle.guard_job.proofs.Left.{flip_failed}
 use Rattle.guard_job.specs.Parts.{IsCell}
 use Rattle.guard_job.proofs.flipping.flip_due.Goals as goal

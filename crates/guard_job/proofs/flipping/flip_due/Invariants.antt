@@ -1,10 +1,5 @@
-use Rattle.std.proofs.Common.{◌≡◌, ◌+◌, ◌≤◌, ◌-◌, drop, length}
-use Rattle.std.specs.List.{AllByRecursion}
-use Rattle.dram_model.specs.Chip.{Banks, Grew}
-use Rattle.transpose_unit.specs.Stopped.{StoppedWithin}
-use Rattle.dram_model.specs.View.{ChipView, Kept}
-use Rattle.guard_model.specs.Flips.{all_flipped, due}
-use Rattle.guard_model.specs.FlipText.{AreSorted}
+use Rattle.guard_job.proofs.Common.{◌≡◌, ◌+◌, ◌≤◌, ◌-◌, drop, length, AllByRecursion, Banks, Grew}
+use Rattle.guard_job.proofs.Common.{StoppedWithin, ChipView, Kept, all_flipped, due, AreSorted}
 use Rattle.guard_job.specs.Events.{flip_events}
 use Rattle.guard_job.specs.Parts.{IsCell, after_flips}
 use Rattle.guard_job.proofs.flipping.flip_due.Given as goal

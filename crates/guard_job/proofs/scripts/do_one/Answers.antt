@@ -1,17 +1,10 @@
-use Rattle.std.proofs.Common.{ℕ, List, refl}
-use Rattle.std.specs.Prelude.{Err, Option}
-use Rattle.dram_model.specs.View.{ChipView}
-use Rattle.bbop_isa.specs.Forms.{Instruction, view_of}
-use Rattle.cli_model.specs.Steps.{Done}
-use Rattle.cli_model.specs.Waves.{ChipUse, doing}
+use Rattle.guard_job.proofs.Common.{ℕ, List, refl, Err, ChipView, Instruction, view_of, Done}
+use Rattle.guard_job.proofs.Common.{ChipUse, doing, is_refused, Machine, geometry_of, is_print}
+use Rattle.guard_job.proofs.Common.{operations_by, table_in, turn_in, Flip, due, guarded_events}
+use Rattle.guard_job.proofs.Common.{mended, machine_in}
+use Rattle.std.specs.Prelude.{Option}
 use Rattle.machine_model.specs.Report.{line}
-use Rattle.machine_model.specs.Script.{is_refused}
-use Rattle.sim_machine.specs.declared.machine.Machine.{Machine}
-use Rattle.sim_machine.specs.Machine.{geometry_of, is_print, operations_by, table_in, turn_in}
-use Rattle.guard_model.specs.declared.Flip.{Flip}
-use Rattle.guard_model.specs.Flips.{due}
-use Rattle.guard_model.specs.Guarded.{guarded_events, guarded_said_by, mended}
-use Rattle.tmr_guard.specs.Steps.{machine_in}
+use Rattle.guard_model.specs.Guarded.{guarded_said_by}
 use Rattle.guard_job.specs.declared.scripts.One.{One}
 use Rattle.guard_job.specs.Events.{mend_events}
 use Rattle.guard_job.specs.Steps.{end_by, line_steps}

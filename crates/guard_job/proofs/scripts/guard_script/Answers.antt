@@ -1,28 +1,15 @@
-use Rattle.std.proofs.Common.{◌≡◌, ℕ, ◌+◌, ◌≤◌, [], ◌∷◌, arith, length, sym, ◌∙◌, ap, subst}
-use Rattle.std.proofs.Common.{map, drop, List, false, refl}
-use Rattle.std.specs.Prelude.{Err}
-use Rattle.bbop_isa.specs.declared.instr.Instr.{Instr}
+use Rattle.guard_job.proofs.Common.{◌≡◌, ℕ, ◌+◌, ◌≤◌, [], ◌∷◌, arith, length, sym, ◌∙◌, ap, subst}
+use Rattle.guard_job.proofs.Common.{map, drop, List, false, refl, Err, Instr, count_by, Geometry}
+use Rattle.guard_job.proofs.Common.{Grew, StoppedWithin, Instruction, view_of, IsPlain, is_refused}
+use Rattle.guard_job.proofs.Common.{world, doing, ChipFailed, Done, Goes, Stopped, geometry_of}
+use Rattle.guard_job.proofs.Common.{operations_by, table_in, turn_in, Flip, due, IsFlip}
+use Rattle.guard_job.proofs.Common.{has_long_name, guarded_replies, guarded_rows_at_end}
+use Rattle.guard_job.proofs.Common.{guarded_table_at_end, guarded_tally, votes_at_end, machine_in}
 use Rattle.std.proofs.lemmas.Result.{err_from_is_err_and}
 use Rattle.std.proofs.lemmas.List.{drop_all, length-drop}
-use Rattle.std.specs.Prelude.{count_by}
-use Rattle.dram_model.specs.declared.geometry.Geometry.{Geometry}
-use Rattle.dram_model.specs.Chip.{Grew}
-use Rattle.transpose_unit.specs.Stopped.{StoppedWithin}
 use Rattle.dram_model.proofs.EventLaws.{Kept-more}
-use Rattle.bbop_isa.specs.Forms.{Instruction, view_of}
-use Rattle.machine_model.specs.Agrees.{IsPlain}
-use Rattle.machine_model.specs.Script.{is_refused}
-use Rattle.cli_model.specs.World.{world}
-use Rattle.cli_model.specs.Waves.{doing}
-use Rattle.cli_model.specs.Steps.{ChipFailed, Done, Goes, Stopped}
-use Rattle.sim_machine.specs.Machine.{geometry_of, operations_by, program_of, table_in, turn_in}
-use Rattle.guard_model.specs.declared.Flip.{Flip}
-use Rattle.guard_model.specs.Flips.{due}
-use Rattle.guard_model.specs.FlipText.{IsFlip}
-use Rattle.guard_model.specs.Named.{has_long_name}
-use Rattle.guard_model.specs.Guarded.{guarded_replies, guarded_rows_at_end, guarded_table_at_end}
-use Rattle.guard_model.specs.Guarded.{guarded_tally, votes_at_end}
-use Rattle.tmr_guard.specs.Steps.{machine_in}
+use Rattle.sim_machine.specs.Machine.{program_of}
+use Rattle.sim_machine.proofs.Keeping.{goes_more}
 use Rattle.guard_job.specs.Events.{mend_events, run_events}
 use Rattle.guard_job.specs.Steps.{end_by, guarded_steps}
 use Rattle.guard_job.specs.declared.scripts.One.{One}
@@ -32,7 +19,6 @@ use Rattle.guard_job.proofs.Ending.{rises_more, stops_here, tally_last}
 use Rattle.guard_job.proofs.Walking.{banks_go, goes_goes, line_moved, log_goes, moved, refused_goes}
 use Rattle.guard_job.proofs.Sending.{and_then, left_by, unused}
 use Rattle.guard_job.proofs.Walking.{table_goes, tally_goes, votes_go}
-use Rattle.sim_machine.proofs.Keeping.{goes_more}
 use Rattle.guard_job.proofs.scripts.guard_script.Goals as goal
 
 pub instrs-preserved : goal.instrs-preserved

@@ -1,24 +1,13 @@
-use Rattle.std.proofs.Common.{◌≡◌, ℕ, ◌+◌, ◌*◌, ◌<◌, ◌≤◌, ◌-◌, ◌^◌, drop, map, length, false}
-use Rattle.std.specs.Prelude.{None, count_by}
-use Rattle.std.specs.List.{AllByRecursion}
-use Rattle.host_edge.specs.Views.{FolderView}
-use Rattle.dram_model.specs.Chip.{Grew}
-use Rattle.dram_model.specs.View.{ChipView, Kept}
-use Rattle.bbop_isa.specs.Forms.{view_of}
-use Rattle.machine_model.specs.Agrees.{IsPlain}
-use Rattle.machine_model.specs.Script.{is_refused}
-use Rattle.object_steps.specs.Objects.{RisesAtMost}
-use Rattle.cli_model.specs.World.{World, world}
-use Rattle.cli_model.specs.Steps.{Goes, End}
-use Rattle.sim_machine.specs.Machine.{GoesOn, geometry_of, operations_by, table_in}
-use Rattle.sim_machine.specs.Machine.{turn_in}
-use Rattle.guard_model.specs.Flips.{due}
-use Rattle.guard_model.specs.FlipText.{AreSorted, IsFlip}
-use Rattle.guard_model.specs.Named.{has_long_name}
+use Rattle.guard_job.proofs.Common.{◌≡◌, ℕ, ◌+◌, ◌<◌, ◌≤◌, ◌-◌, drop, map, length, false, None}
+use Rattle.guard_job.proofs.Common.{count_by, AllByRecursion, FolderView, Grew, ChipView, Kept}
+use Rattle.guard_job.proofs.Common.{view_of, IsPlain, is_refused, RisesAtMost, World, world, Goes}
+use Rattle.guard_job.proofs.Common.{End, geometry_of, operations_by, table_in, turn_in, due}
+use Rattle.guard_job.proofs.Common.{AreSorted, IsFlip, has_long_name, guarded_replies}
+use Rattle.guard_job.proofs.Common.{guarded_rows_at_end, guarded_table_at_end, guarded_tally}
+use Rattle.guard_job.proofs.Common.{votes_at_end, machine_in}
+use Rattle.std.proofs.Common.{◌*◌, ◌^◌}
+use Rattle.sim_machine.specs.Machine.{GoesOn}
 use Rattle.guard_model.specs.Triples.{first_stranger}
-use Rattle.guard_model.specs.Guarded.{guarded_replies, guarded_rows_at_end, guarded_table_at_end}
-use Rattle.guard_model.specs.Guarded.{guarded_tally, votes_at_end}
-use Rattle.tmr_guard.specs.Steps.{machine_in}
 use Rattle.guard_job.specs.Events.{run_events}
 use Rattle.guard_job.specs.Steps.{guarded_steps}
 use Rattle.guard_job.proofs.scripts.guard_script.Given as goal

@@ -1,8 +1,5 @@
-use Rattle.sim_machine.specs.Machine.{geometry_of, table_in}
-use Rattle.guard_model.specs.Flips.{due}
-use Rattle.tmr_guard.specs.Steps.{machine_in}
+use Rattle.guard_job.proofs.Common.{geometry_of, table_in, due, machine_in, on_err_always}
 use Rattle.guard_job.proofs.Doing.{mended_by}
-use Rattle.tmr_guard.proofs.Left.{on_err_always}
 use Rattle.guard_job.proofs.Left.{flips_failed, votes_failed}
 use Rattle.guard_job.proofs.scripts.mend.Goals as goal
 

@@ -1,7 +1,5 @@
-use Rattle.std.proofs.Common.{length, ◌-◌, ◌∙◌, take, drop, arith, get_or}
+use Rattle.loop_front.proofs.Common.{length, ◌-◌, ◌∙◌, take, drop, arith, get_or, flow_of, Zero}
 use Rattle.std.proofs.lemmas.Result.{IfOk-weaker}
-use Rattle.loop_ir.specs.Plain.{flow_of}
-use Rattle.loop_ir.specs.declared.ir.Sub.TheVariants.{Zero}
 use Rattle.loop_front.specs.Moments.{moves_at}
 use Rattle.loop_front.proofs.Built.{put_first, first_is}
 use Rattle.loop_front.proofs.moves.+put_subs.Goals as goal

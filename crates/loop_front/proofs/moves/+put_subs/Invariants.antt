@@ -1,4 +1,4 @@
-use Rattle.std.proofs.Common.{length}
+use Rattle.loop_front.proofs.Common.{length}
 use Rattle.loop_front.proofs.moves.+put_subs.Given as goal
 
 abbrev pub decreases-put_subs : goal.decreases-put_subs

@@ -1,9 +1,7 @@
-use Rattle.std.proofs.Common.{ℕ, Bool, [], ◌∷◌, ◌++◌, map, cond, sym, ap, ◌∙◌, append-nil, arith}
-use Rattle.std.specs.Prelude.{filter}
-use Rattle.std.specs.List.{range_with_len}
+use Rattle.loop_front.proofs.Common.{ℕ, Bool, [], ◌∷◌, ◌++◌, map, cond, sym, ap, ◌∙◌, arith, filter}
+use Rattle.loop_front.proofs.Common.{range_with_len, flow_of, names}
+use Rattle.std.proofs.Common.{append-nil}
 use Rattle.std.proofs.lemmas.List.FromFn.{filter_of_map_range_with_len_more}
-use Rattle.loop_ir.specs.Plain.{flow_of}
-use Rattle.loop_ir.specs.FlowTests.{names}
 use Rattle.loop_front.proofs.names.cleared.Goals.{then-names+in_ok-keep, else-names}
 use Rattle.loop_front.proofs.names.cleared.Goals as goal
 

@@ -1,8 +1,4 @@
-use Rattle.std.proofs.Common.{◌≡◌, map}
-use Rattle.std.specs.Prelude.{filter}
-use Rattle.std.specs.List.{range_with_len}
-use Rattle.loop_ir.specs.Plain.{flow_of}
-use Rattle.loop_ir.specs.FlowTests.{names}
+use Rattle.loop_front.proofs.Common.{◌≡◌, map, filter, range_with_len, flow_of, names}
 use Rattle.loop_front.proofs.names.cleared.Given as goal
 
 -- of the first registers those that stand in its forms

@@ -1,4 +1,4 @@
-use Rattle.std.proofs.Common.{ap, ◌∙◌, arith, set, get_or}
+use Rattle.loop_front.proofs.Common.{ap, ◌∙◌, arith, set, get_or}
 use Rattle.loop_front.specs.Front.{placed}
 use Rattle.loop_front.proofs.Built.{change_one, change_all}
 use Rattle.loop_front.proofs.places.place_all.Goals as goal

@@ -1,4 +1,4 @@
-use Rattle.std.proofs.Common.{◌≡◌, ◌++◌, map, take, drop}
+use Rattle.loop_front.proofs.Common.{◌≡◌, ◌++◌, map, take, drop}
 use Rattle.loop_front.specs.Front.{placed}
 use Rattle.loop_front.proofs.places.place_all.Given as goal
 

@@ -1,5 +1,6 @@
-use Rattle.std.proofs.Common.{ap, sym, ◌∙◌, map, ◌≡◌, true, subst, rules}
-use Rattle.loop_ir.specs.Plain.{step_of, steps_of, flow_of}
+use Rattle.loop_front.proofs.Common.{ap, sym, ◌∙◌, map, ◌≡◌, true, subst, step_of, flow_of}
+use Rattle.std.proofs.Common.{rules}
+use Rattle.loop_ir.specs.Plain.{steps_of}
 use Rattle.loop_front.specs.Front.{steps_flow, front}
 use Rattle.loop_front.specs.FlowOfSteps.{IsFlowOf}
 use Rattle.loop_front.proofs.Fronts.{front_is}

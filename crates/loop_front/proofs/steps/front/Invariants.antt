@@ -1,5 +1,4 @@
-use Rattle.std.proofs.Common.{◌≡◌, map, length}
-use Rattle.loop_ir.specs.Plain.{step_of, flow_of}
+use Rattle.loop_front.proofs.Common.{◌≡◌, map, length, step_of, flow_of}
 use Rattle.loop_front.specs.Front.{steps_flow}
 use Rattle.loop_front.proofs.steps.front.Given as goal
 

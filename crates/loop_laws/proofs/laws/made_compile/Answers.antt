@@ -1,4 +1,4 @@
-use Rattle.std.proofs.Common.{◌≡◌, true}
+use Rattle.loop_laws.proofs.Common.{◌≡◌, true}
 use Rattle.loop_laws.proofs.Compile as m
 use Rattle.loop_laws.proofs.laws.made_compile.Goals as goal
 

@@ -1,5 +1,5 @@
-use Rattle.std.proofs.Common.{◌≡◌, ◌∙◌, ◌+◌, ◌<◌, ◌-◌, ℕ, length, subst, sym, arith}
-use Rattle.std.proofs.lemmas.Bool.{false≢true}
+use Rattle.mig_rewrite.proofs.Common.{◌≡◌, ◌∙◌, ◌+◌, ◌<◌, ◌-◌, ℕ, length, subst, sym, arith}
+use Rattle.mig_rewrite.proofs.Common.{false≢true}
 use Rattle.mig_rewrite.specs.Plan.{is_marked}
 use Rattle.mig_rewrite.specs.Values.{FitsFrom, Agree}
 use Rattle.mig_rewrite.proofs.Agreeing.{fits-before, fits-after, either}

@@ -1,6 +1,4 @@
-use Rattle.std.proofs.Common.{◌∙◌, ◌<◌, ap, arith}
-use Rattle.mig_graph.specs.Graph.{size_of}
-use Rattle.mig_graph.specs.Literals.{node_value}
+use Rattle.mig_rewrite.proofs.Common.{◌∙◌, ◌<◌, ap, arith, size_of, node_value}
 use Rattle.mig_rewrite.specs.Plan.{is_marked}
 use Rattle.mig_rewrite.proofs.Agreeing.{more-values, node-computed}
 use Rattle.mig_rewrite.proofs.agree.evaluate.Goals as goal

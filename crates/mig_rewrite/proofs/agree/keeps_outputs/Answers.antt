@@ -1,5 +1,4 @@
-use Rattle.std.proofs.Common.{◌≡◌, ◌∙◌, ap, false, length, sym, arith}
-use Rattle.std.proofs.lemmas.List.{length-replicate}
+use Rattle.mig_rewrite.proofs.Common.{◌≡◌, ◌∙◌, ap, false, length, sym, arith, length-replicate}
 use Rattle.mig_rewrite.proofs.agree.keeps_outputs.Goals as goal
 
 pub returns : goal.returns

@@ -1,4 +1,4 @@
-use Rattle.std.proofs.Common.{◌∙◌, ◌<◌, ◌+◌, arith}
+use Rattle.mig_rewrite.proofs.Common.{◌∙◌, ◌<◌, ◌+◌, arith}
 use Rattle.mig_rewrite.proofs.Agreeing.{first-value, more-values, input-value}
 use Rattle.mig_rewrite.proofs.agree.put_inputs.Goals as goal
 

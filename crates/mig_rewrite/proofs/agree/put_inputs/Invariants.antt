@@ -1,5 +1,4 @@
-use Rattle.std.proofs.Common.{◌≡◌, ◌+◌, length}
-use Rattle.mig_graph.specs.Graph.{size_of}
+use Rattle.mig_rewrite.proofs.Common.{◌≡◌, ◌+◌, length, size_of}
 use Rattle.mig_rewrite.specs.Values.{HasValues}
 use Rattle.mig_rewrite.proofs.agree.put_inputs.Given as goal
 

@@ -1,6 +1,4 @@
-use Rattle.std.proofs.Common.{◌≡◌, ◌<◌, ℕ}
-use Rattle.mig_graph.specs.Literals.{lit_value}
-use Rattle.mig_graph.specs.Outputs.{lit_at}
+use Rattle.mig_rewrite.proofs.Common.{◌≡◌, ◌<◌, ℕ, lit_value, lit_at}
 use Rattle.mig_rewrite.specs.Plan.{is_marked}
 use Rattle.mig_rewrite.proofs.agree.same_outputs.Given as goal
 

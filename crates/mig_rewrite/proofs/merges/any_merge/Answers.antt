@@ -1,8 +1,7 @@
-use Rattle.std.proofs.Common.{◌≡◌, ℕ, ◌+◌, ◌-◌, ◌<◌, length, List, subst, sym, arith, inl, inr}
-use Rattle.std.proofs.lemmas.Bool.{cases_lt}
-use Rattle.mig_graph.specs.declared.Lit.{Lit}
-use Rattle.mig_graph.specs.Graph.{Graph, IsGraph, size_of, node_at}
-use Rattle.mig_graph.specs.Reduced.{node_numbered, IsReduced}
+use Rattle.mig_rewrite.proofs.Common.{◌≡◌, ℕ, ◌+◌, ◌-◌, ◌<◌, length, List, subst, sym, arith, inl}
+use Rattle.mig_rewrite.proofs.Common.{inr, cases_lt, Lit, Graph, IsGraph, size_of, node_at}
+use Rattle.mig_rewrite.proofs.Common.{node_numbered}
+use Rattle.mig_graph.specs.Reduced.{IsReduced}
 use Rattle.mig_graph.proofs.ReducedLaws.{reduced-but-pairs}
 use Rattle.mig_rewrite.specs.Merge.{NoMerge}
 use Rattle.mig_rewrite.proofs.merges.any_merge.Goals as goal

@@ -1,5 +1,4 @@
-use Rattle.std.proofs.Common.{◌<◌, ℕ}
-use Rattle.mig_graph.specs.Reduced.{node_numbered}
+use Rattle.mig_rewrite.proofs.Common.{◌<◌, ℕ, node_numbered}
 use Rattle.mig_rewrite.specs.Merge.{NoMerge}
 use Rattle.mig_rewrite.proofs.merges.any_merge.Given as goal
 

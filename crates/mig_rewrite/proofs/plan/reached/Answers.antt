@@ -1,7 +1,7 @@
-use Rattle.std.proofs.Common.{◌≡◌, ℕ, List, Bool, ◌-◌, ◌≤◌, true, ◌++◌, length, arith, sym, ap, ◌∙◌, take, drop}
+use Rattle.mig_rewrite.proofs.Common.{◌≡◌, ℕ, List, Bool, ◌-◌, ◌≤◌, true, ◌++◌, length, arith, sym}
+use Rattle.mig_rewrite.proofs.Common.{ap, ◌∙◌, take, drop, node_numbered}
 use Rattle.mig_rewrite.specs.Plan.{is_marked}
 use Rattle.mig_rewrite.specs.Reach.{ReadsMarked}
-use Rattle.mig_graph.specs.Reduced.{node_numbered}
 use Rattle.mig_rewrite.proofs.Marks.{written, closed-more}
 use Rattle.mig_rewrite.proofs.plan.reached.Goals as goal
 

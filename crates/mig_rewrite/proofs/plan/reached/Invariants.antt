@@ -1,7 +1,5 @@
-use Rattle.std.proofs.Common.{◌≡◌, ◌<◌, ◌≤◌, ℕ, true, length}
-use Rattle.mig_graph.specs.Graph.{size_of}
-use Rattle.mig_graph.specs.Reduced.{node_numbered}
-use Rattle.mig_graph.specs.Outputs.{lit_at}
+use Rattle.mig_rewrite.proofs.Common.{◌≡◌, ◌<◌, ◌≤◌, ℕ, true, length, size_of, node_numbered}
+use Rattle.mig_rewrite.proofs.Common.{lit_at}
 use Rattle.mig_rewrite.specs.Plan.{is_marked}
 use Rattle.mig_rewrite.specs.Reach.{ReadsMarked, IsReached}
 use Rattle.mig_rewrite.proofs.plan.reached.Given as goal

@@ -1,5 +1,4 @@
-use Rattle.std.proofs.Common.{◌≡◌, ◌∷◌, [], length-append, arith, refl}
-use Rattle.mig_graph.proofs.OutputLaws.{each-more}
+use Rattle.mig_rewrite.proofs.Common.{◌≡◌, ◌∷◌, [], length-append, arith, refl, each-more}
 use Rattle.mig_rewrite.specs.Merge.{straight}
 use Rattle.mig_rewrite.proofs.rebuild.first_literals.Goals as goal
 

@@ -1,5 +1,4 @@
-use Rattle.std.proofs.Common.{◌≡◌, ◌<◌, ℕ, length}
-use Rattle.mig_graph.specs.Outputs.{lit_at}
+use Rattle.mig_rewrite.proofs.Common.{◌≡◌, ◌<◌, ℕ, length, lit_at}
 use Rattle.mig_rewrite.specs.Merge.{straight}
 use Rattle.mig_rewrite.proofs.rebuild.first_literals.Given as goal
 

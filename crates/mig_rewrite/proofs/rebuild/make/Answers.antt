@@ -1,13 +1,9 @@
-use Rattle.std.proofs.Common.{◌≡◌, ℕ, Bool, ◌∙◌, ap, refl, ◌<◌, ◌∷◌, [], List, length}
-use Rattle.std.proofs.Common.{length-append, arith, inl, inr}
+use Rattle.mig_rewrite.proofs.Common.{◌≡◌, ℕ, Bool, ◌∙◌, ap, refl, ◌<◌, ◌∷◌, [], List, length}
+use Rattle.mig_rewrite.proofs.Common.{length-append, arith, inl, inr, majority, flip_if, Lit}
+use Rattle.mig_rewrite.proofs.Common.{complement_if, Graph, value, values, size_of, value-zero}
+use Rattle.mig_rewrite.proofs.Common.{lit_at, AreNamed, value-complemented, complemented-node}
 use Rattle.std.proofs.lemmas.Result.{IfOk-weaker}
-use Rattle.bit_rows.specs.Bits.{majority, flip_if}
-use Rattle.mig_graph.specs.declared.Lit.{Lit}
-use Rattle.mig_graph.specs.Literals.{complement_if}
-use Rattle.mig_graph.specs.Graph.{Graph, value, values, size_of, GrewByOne}
-use Rattle.mig_graph.proofs.Laws.{value-zero}
-use Rattle.mig_graph.specs.Outputs.{lit_at, AreNamed}
-use Rattle.mig_graph.proofs.OutputLaws.{value-complemented, complemented-node}
+use Rattle.mig_graph.specs.Graph.{GrewByOne}
 use Rattle.mig_rewrite.specs.declared.rebuild.Part.TheVariants.{Two}
 use Rattle.mig_rewrite.specs.Plan.{part_value}
 use Rattle.mig_rewrite.proofs.rebuild.make.Goals as goal

@@ -1,14 +1,7 @@
-use Rattle.std.proofs.Common.{◌≡◌, ℕ, ◌+◌, ◌<◌, ◌≤◌, Bool, [], ◌∷◌, length, length-append, arith}
-use Rattle.std.proofs.Common.{sym, ◌∙◌, subst, ap, true, inl, inr}
-use Rattle.std.specs.Prelude.{None}
-use Rattle.std.proofs.lemmas.Bool.{cases_lt}
-use Rattle.mig_graph.specs.declared.Lit.{Lit}
-use Rattle.mig_graph.specs.Literals.{complement_if}
-use Rattle.bit_rows.specs.Bits.{flip_if}
-use Rattle.mig_graph.specs.Graph.{Graph, size_of, value, values, start}
-use Rattle.mig_graph.proofs.Laws.{values-below}
-use Rattle.mig_graph.specs.Outputs.{lit_at}
-use Rattle.mig_graph.proofs.OutputLaws.{each-more, value-complemented}
+use Rattle.mig_rewrite.proofs.Common.{◌≡◌, ℕ, ◌+◌, ◌<◌, ◌≤◌, Bool, [], ◌∷◌, length, length-append}
+use Rattle.mig_rewrite.proofs.Common.{arith, sym, ◌∙◌, subst, ap, true, inl, inr, None, cases_lt}
+use Rattle.mig_rewrite.proofs.Common.{Lit, complement_if, flip_if, Graph, size_of, value, values}
+use Rattle.mig_rewrite.proofs.Common.{start, values-below, lit_at, each-more, value-complemented}
 use Rattle.mig_rewrite.specs.Plan.{part_of, cost, is_marked}
 use Rattle.mig_rewrite.proofs.Steps.{part-lower, values-more, count-more, merged-spared}
 use Rattle.mig_rewrite.proofs.Steps.{spared-none, marked-more}

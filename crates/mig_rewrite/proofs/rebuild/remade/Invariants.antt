@@ -1,7 +1,5 @@
-use Rattle.std.proofs.Common.{◌≡◌, ◌<◌, ◌≤◌, ◌+◌, ℕ, Bool, true, length}
-use Rattle.std.specs.Prelude.{None}
-use Rattle.mig_graph.specs.Graph.{value, values}
-use Rattle.mig_graph.specs.Outputs.{lit_at, AreNamed}
+use Rattle.mig_rewrite.proofs.Common.{◌≡◌, ◌<◌, ◌≤◌, ◌+◌, ℕ, Bool, true, length, None, value}
+use Rattle.mig_rewrite.proofs.Common.{values, lit_at, AreNamed}
 use Rattle.mig_rewrite.specs.Plan.{is_marked}
 use Rattle.mig_rewrite.proofs.Below.{spared_below, merged_below}
 use Rattle.mig_rewrite.proofs.rebuild.remade.Given as goal

@@ -1,7 +1,5 @@
-use Rattle.std.proofs.Common.{◌≡◌, ◌∷◌, [], length-append, arith}
-use Rattle.mig_graph.specs.Literals.{complement_if}
-use Rattle.mig_graph.specs.Outputs.{lit_at}
-use Rattle.mig_graph.proofs.OutputLaws.{each-more}
+use Rattle.mig_rewrite.proofs.Common.{◌≡◌, ◌∷◌, [], length-append, arith, complement_if, lit_at}
+use Rattle.mig_rewrite.proofs.Common.{each-more}
 use Rattle.mig_rewrite.proofs.rebuild.translated_all.Goals as goal
 
 pub loop-l-preserved : goal.loop-l-preserved

@@ -1,6 +1,4 @@
-use Rattle.std.proofs.Common.{◌≡◌, ◌<◌, ℕ, length}
-use Rattle.mig_graph.specs.Literals.{complement_if}
-use Rattle.mig_graph.specs.Outputs.{lit_at}
+use Rattle.mig_rewrite.proofs.Common.{◌≡◌, ◌<◌, ℕ, length, complement_if, lit_at}
 use Rattle.mig_rewrite.proofs.rebuild.translated_all.Given as goal
 
 -- the literals so far

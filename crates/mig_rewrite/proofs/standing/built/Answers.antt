@@ -1,12 +1,8 @@
-use Rattle.std.proofs.Common.{◌≡◌, ◌∙◌, ◌+◌, ◌<◌, ◌/◌, ◌%◌, ◌==◌, ℕ, Bool, List, [], ◌∷◌, ap, length}
-use Rattle.std.proofs.Common.{length-append, refl, subst, sym, arith}
-use Rattle.std.specs.Prelude.{if◌then◌else◌, nat_lt, slice_index_or}
-use Rattle.bit_rows.specs.Bits.{majority}
-use Rattle.mig_graph.specs.declared.Lit.{Lit}
-use Rattle.mig_graph.specs.Graph.{Graph, size_of, value}
-use Rattle.mig_graph.specs.Literals.{lit_value}
-use Rattle.mig_graph.specs.Outputs.{lit_at}
-use Rattle.mig_graph.proofs.OutputLaws.{each-more}
+use Rattle.mig_rewrite.proofs.Common.{◌≡◌, ◌∙◌, ◌+◌, ◌<◌, ◌/◌, ◌%◌, ◌==◌, ℕ, Bool, List, [], ◌∷◌}
+use Rattle.mig_rewrite.proofs.Common.{ap, length, length-append, refl, subst, sym, arith}
+use Rattle.mig_rewrite.proofs.Common.{if◌then◌else◌, nat_lt, majority, Lit, Graph, size_of, value}
+use Rattle.mig_rewrite.proofs.Common.{lit_value, lit_at, each-more}
+use Rattle.std.specs.Prelude.{slice_index_or}
 use Rattle.mig_rewrite.specs.declared.rebuild.Part.TheVariants.{One}
 use Rattle.mig_rewrite.specs.declared.sketch.Sketch.{Sketch}
 use Rattle.mig_rewrite.specs.Plan.{part_value}

@@ -1,5 +1,4 @@
-use Rattle.std.proofs.Common.{◌≡◌, ◌<◌, ◌≤◌, ℕ, Bool, length}
-use Rattle.mig_graph.specs.Outputs.{AreNamed}
+use Rattle.mig_rewrite.proofs.Common.{◌≡◌, ◌<◌, ◌≤◌, ℕ, Bool, length, AreNamed}
 use Rattle.mig_rewrite.specs.Offers.{Stands}
 use Rattle.mig_rewrite.proofs.standing.built.Given as goal
 

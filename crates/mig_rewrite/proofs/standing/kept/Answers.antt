@@ -1,6 +1,4 @@
-use Rattle.std.proofs.Common.{◌∙◌, ◌≤◌, length, sym, arith}
-use Rattle.std.proofs.lemmas.Bool.{false≢true}
-use Rattle.mig_graph.specs.Outputs.{KeepsOutputs}
+use Rattle.mig_rewrite.proofs.Common.{◌∙◌, ◌≤◌, length, sym, arith, false≢true, KeepsOutputs}
 use Rattle.mig_rewrite.proofs.Keeping.{keeps-twice}
 use Rattle.mig_rewrite.proofs.standing.kept.Goals as goal
 

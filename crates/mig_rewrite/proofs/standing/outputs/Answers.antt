@@ -1,7 +1,5 @@
-use Rattle.std.proofs.Common.{◌≡◌, ◌<◌, ◌+◌, ◌∙◌, ◌∷◌, [], length, length-append, ap, arith}
-use Rattle.mig_graph.specs.Graph.{size_of, value}
-use Rattle.mig_graph.specs.Outputs.{lit_at}
-use Rattle.mig_graph.proofs.OutputLaws.{each-more, complemented-node}
+use Rattle.mig_rewrite.proofs.Common.{◌≡◌, ◌<◌, ◌+◌, ◌∙◌, ◌∷◌, [], length, length-append, ap, arith}
+use Rattle.mig_rewrite.proofs.Common.{size_of, value, lit_at, each-more, complemented-node}
 use Rattle.mig_rewrite.specs.Offers.{output_value, short_value, sketch_values}
 use Rattle.mig_rewrite.proofs.Offering.{short-read, translated-value}
 use Rattle.mig_rewrite.proofs.standing.outputs.Goals as goal

@@ -1,6 +1,4 @@
-use Rattle.std.proofs.Common.{◌≡◌, ◌<◌, ℕ, Bool, length}
-use Rattle.mig_graph.specs.Graph.{Graph, value}
-use Rattle.mig_graph.specs.Outputs.{lit_at, AreNamed}
+use Rattle.mig_rewrite.proofs.Common.{◌≡◌, ◌<◌, ℕ, Bool, length, Graph, value, lit_at, AreNamed}
 use Rattle.mig_rewrite.specs.Offers.{Stands, output_value}
 use Rattle.mig_rewrite.proofs.standing.outputs.Given as goal
 

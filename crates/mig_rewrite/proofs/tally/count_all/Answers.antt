@@ -1,7 +1,5 @@
-use Rattle.std.proofs.Common.{subst, [], ◌∷◌, ◌++◌, ◌<◌, length, take}
-use Rattle.std.specs.Prelude.{flat_map}
-use Rattle.mig_graph.specs.Reduced.{literals}
-use Rattle.mig_graph.specs.Outputs.{lit_at}
+use Rattle.mig_rewrite.proofs.Common.{subst, [], ◌∷◌, ◌++◌, ◌<◌, length, take, flat_map, literals}
+use Rattle.mig_rewrite.proofs.Common.{lit_at}
 use Rattle.mig_rewrite.specs.Counts.{AreCounts}
 use Rattle.mig_rewrite.proofs.Counting.{outputs-more}
 use Rattle.mig_rewrite.proofs.tally.count_all.Goals as goal

@@ -1,6 +1,4 @@
-use Rattle.std.proofs.Common.{◌-◌, ◌++◌, take}
-use Rattle.std.specs.Prelude.{flat_map}
-use Rattle.mig_graph.specs.Reduced.{literals}
+use Rattle.mig_rewrite.proofs.Common.{◌-◌, ◌++◌, take, flat_map, literals}
 use Rattle.mig_rewrite.specs.Counts.{AreCounts}
 use Rattle.mig_rewrite.proofs.tally.count_all.Given as goal
 

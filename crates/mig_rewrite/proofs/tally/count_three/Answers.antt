@@ -1,4 +1,4 @@
-use Rattle.std.proofs.Common.{subst, [], ◌∷◌, ◌++◌}
+use Rattle.mig_rewrite.proofs.Common.{subst, [], ◌∷◌, ◌++◌}
 use Rattle.mig_rewrite.specs.Counts.{AreCounts}
 use Rattle.mig_rewrite.proofs.Counting.{three-more}
 use Rattle.mig_rewrite.proofs.tally.count_three.Goals as goal

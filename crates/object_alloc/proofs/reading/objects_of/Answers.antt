@@ -1,4 +1,5 @@
-use Rattle.std.proofs.Common.{◌≡◌, ◌∷◌, ◌++◌, [], length, arith, ap, ◌∙◌, length-append}
+use Rattle.object_alloc.proofs.Common.{◌≡◌, ◌∷◌, ◌++◌, [], length, arith, ap, ◌∙◌}
+use Rattle.std.proofs.Common.{length-append}
 use Rattle.std.proofs.lemmas.Result.{err_from_is_err_and}
 use Rattle.object_alloc.specs.Listed.{Named, Listing}
 use Rattle.object_alloc.proofs.Objects.{object_fits, objects_more, objects_fault, objects_end}

@@ -1,4 +1,4 @@
-use Rattle.std.proofs.Common.{◌≡◌, ◌+◌, ◌-◌, ◌*◌, ◌≤◌, [], length}
+use Rattle.object_alloc.proofs.Common.{◌≡◌, ◌+◌, ◌-◌, ◌*◌, ◌≤◌, [], length}
 use Rattle.object_alloc.specs.Listed.{limit_of}
 use Rattle.object_alloc.specs.Reading.{objects_at}
 use Rattle.object_alloc.proofs.reading.objects_of.Given as goal

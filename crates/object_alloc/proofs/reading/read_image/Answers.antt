@@ -1,4 +1,4 @@
-use Rattle.std.proofs.Common.{ap, subst, ◌∙◌, arith}
+use Rattle.object_alloc.proofs.Common.{ap, subst, ◌∙◌, arith}
 use Rattle.object_alloc.specs.Exact.{found_in}
 use Rattle.object_alloc.specs.Reading.{Answers, image_in}
 use Rattle.object_alloc.proofs.Exact.{image_read}

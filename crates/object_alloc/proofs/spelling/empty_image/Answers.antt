@@ -1,4 +1,4 @@
-use Rattle.std.proofs.Common.{◌≡◌, ℕ, ◌*◌, ◌∙◌, arith, vec_len, refl}
+use Rattle.object_alloc.proofs.Common.{◌≡◌, ℕ, ◌*◌, ◌∙◌, arith, vec_len, refl}
 use Rattle.object_alloc.specs.Reading.{rows_size}
 use Rattle.object_alloc.proofs.Written.{empty_is}
 use Rattle.object_alloc.proofs.spelling.empty_image.Goals as goal

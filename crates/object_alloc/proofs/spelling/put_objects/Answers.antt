@@ -1,5 +1,5 @@
-use Rattle.std.proofs.Common.{List, ℕ, ap, sym, ◌∙◌, ◌++◌, arith, append_assoc, take}
-use Rattle.std.specs.List.{flat_map}
+use Rattle.object_alloc.proofs.Common.{List, ℕ, ap, sym, ◌∙◌, ◌++◌, arith, append_assoc, take}
+use Rattle.object_alloc.proofs.Common.{flat_map}
 use Rattle.object_alloc.specs.Listed.{Named}
 use Rattle.object_alloc.specs.Spelling.{object_bytes}
 use Rattle.object_alloc.proofs.Written.{objects_more}

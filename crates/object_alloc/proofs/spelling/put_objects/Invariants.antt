@@ -1,6 +1,5 @@
-use Rattle.std.proofs.Common.{◌≡◌, ◌+◌, ◌*◌, ◌≤◌, ◌++◌, take, vec_len}
-use Rattle.std.specs.List.{flat_map}
-use Rattle.std.specs.Prelude.{vec_capacity}
+use Rattle.object_alloc.proofs.Common.{◌≡◌, ◌+◌, ◌*◌, ◌≤◌, ◌++◌, take, vec_len, flat_map}
+use Rattle.object_alloc.proofs.Common.{vec_capacity}
 use Rattle.object_alloc.specs.Spelling.{object_bytes}
 use Rattle.object_alloc.proofs.spelling.put_objects.Given as goal
 

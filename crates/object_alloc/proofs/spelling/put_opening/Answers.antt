@@ -1,5 +1,4 @@
-use Rattle.std.proofs.Common.{codes}
-use Rattle.std.specs.Int.{to_le_bytes, w16}
+use Rattle.object_alloc.proofs.Common.{codes, to_le_bytes, w16}
 use Rattle.object_alloc.proofs.Written.{five}
 use Rattle.object_alloc.proofs.spelling.put_opening.Goals as goal
 

@@ -1,5 +1,4 @@
-use Rattle.std.proofs.Common.{◌≡◌, drop}
-use Rattle.std.specs.List.{find}
+use Rattle.object_alloc.proofs.Common.{◌≡◌, drop, find}
 use Rattle.object_alloc.specs.Free.{meets}
 use Rattle.object_alloc.specs.Listed.{objects_of}
 use Rattle.object_alloc.proofs.table.blocker.Given as goal

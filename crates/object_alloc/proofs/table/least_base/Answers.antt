@@ -1,5 +1,4 @@
-use Rattle.std.proofs.Common.{◌<◌, arith, sym, inl, inr}
-use Rattle.std.proofs.lemmas.Bool.{cases_lt}
+use Rattle.object_alloc.proofs.Common.{◌<◌, arith, sym, inl, inr, cases_lt}
 use Rattle.object_alloc.specs.Free.{meets, end_of}
 use Rattle.object_alloc.specs.Listed.{objects_of}
 use Rattle.object_alloc.proofs.Bases.{free_is, free_is_none, blocked_is, clear_is, base_taken}

@@ -1,4 +1,4 @@
-use Rattle.std.proofs.Common.{◌≡◌, ℕ, ◌-◌, ◌<◌, ◌≤◌, false}
+use Rattle.object_alloc.proofs.Common.{◌≡◌, ℕ, ◌-◌, ◌<◌, ◌≤◌, false}
 use Rattle.object_alloc.specs.Free.{are_free}
 use Rattle.object_alloc.specs.Listed.{objects_of}
 use Rattle.object_alloc.proofs.table.least_base.Given as goal

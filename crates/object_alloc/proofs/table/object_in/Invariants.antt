@@ -1,4 +1,4 @@
-use Rattle.std.proofs.Common.{◌≡◌, drop}
+use Rattle.object_alloc.proofs.Common.{◌≡◌, drop}
 use Rattle.object_alloc.specs.Listed.{look_up}
 use Rattle.object_alloc.proofs.table.object_in.Given as goal
 

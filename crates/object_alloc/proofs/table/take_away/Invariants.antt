@@ -1,5 +1,4 @@
-use Rattle.std.proofs.Common.{◌≡◌, ◌-◌, ◌++◌, ◌≤◌, take, drop, vec_len}
-use Rattle.std.specs.Prelude.{vec_capacity}
+use Rattle.object_alloc.proofs.Common.{◌≡◌, ◌-◌, ◌++◌, ◌≤◌, take, drop, vec_len, vec_capacity}
 use Rattle.object_alloc.specs.Listed.{without}
 use Rattle.object_alloc.proofs.table.take_away.Given as goal
 

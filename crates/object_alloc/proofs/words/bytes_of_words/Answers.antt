@@ -1,5 +1,5 @@
-use Rattle.std.proofs.Common.{List, ℕ, ap, sym, ◌∙◌, ◌++◌, arith}
-use Rattle.std.proofs.lemmas.List.{take_all, get_or_default}
+use Rattle.object_alloc.proofs.Common.{List, ℕ, ap, sym, ◌∙◌, ◌++◌, arith, take_all}
+use Rattle.std.proofs.lemmas.List.{get_or_default}
 use Rattle.object_alloc.proofs.Bits.{bytes-words, word_list_bytes}
 use Rattle.object_alloc.proofs.words.bytes_of_words.Goals as goal
 

@@ -1,5 +1,4 @@
-use Rattle.std.proofs.Common.{◌≡◌, ◌+◌, ◌*◌, ◌≤◌, ◌++◌, take, vec_len}
-use Rattle.std.specs.Prelude.{vec_capacity}
+use Rattle.object_alloc.proofs.Common.{◌≡◌, ◌+◌, ◌*◌, ◌≤◌, ◌++◌, take, vec_len, vec_capacity}
 use Rattle.object_alloc.proofs.Bits.{word_list_bytes}
 use Rattle.object_alloc.proofs.words.bytes_of_words.Given as goal
 

@@ -1,5 +1,4 @@
-use Rattle.std.proofs.Common.{ℕ, ap, ◌∙◌, arith}
-use Rattle.bit_rows.specs.Bits.{bits}
+use Rattle.object_alloc.proofs.Common.{ℕ, ap, ◌∙◌, arith, bits}
 use Rattle.object_alloc.proofs.Bits.{word-bytes}
 use Rattle.object_alloc.proofs.words.word_of_bytes.Goals as goal
 

@@ -1,6 +1,4 @@
-use Rattle.std.proofs.Common.{ap, sym, ◌∙◌, ◌*◌, arith}
-use Rattle.std.proofs.lemmas.List.{take_all}
-use Rattle.bit_rows.specs.Bits.{bits_of_words}
+use Rattle.object_alloc.proofs.Common.{ap, sym, ◌∙◌, ◌*◌, arith, take_all, bits_of_words}
 use Rattle.object_alloc.specs.Bytes.{bits_of_bytes}
 use Rattle.object_alloc.proofs.Bits.{words_more}
 use Rattle.object_alloc.proofs.words.words_of_bytes.Goals as goal

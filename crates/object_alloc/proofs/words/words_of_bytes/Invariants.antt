@@ -1,5 +1,4 @@
-use Rattle.std.proofs.Common.{◌≡◌, ◌*◌, take}
-use Rattle.bit_rows.specs.Bits.{bits_of_words}
+use Rattle.object_alloc.proofs.Common.{◌≡◌, ◌*◌, take, bits_of_words}
 use Rattle.object_alloc.specs.Bytes.{bits_of_bytes}
 use Rattle.object_alloc.proofs.words.words_of_bytes.Given as goal
 

@@ -1,13 +1,7 @@
-use Rattle.std.proofs.Common.{◌∙◌, ◌*◌, ap, subst, refl}
-use Rattle.dram_model.proofs.EventLaws.{Kept-same}
-use Rattle.dram_model.specs.View.{Did}
-use Rattle.transpose_unit.specs.Stopped.{StoppedWithin}
-use Rattle.uprog_code.specs.declared.walker.Counts.{Counts}
-use Rattle.object_alloc.specs.declared.table.Object.{Object}
+use Rattle.object_steps.proofs.Common.{◌∙◌, ◌*◌, ap, subst, refl, Kept-same, Did, StoppedWithin}
+use Rattle.object_steps.proofs.Common.{Counts, Object, segments, refusal, counts_for, fill_events}
+use Rattle.object_steps.proofs.Common.{own_events}
 use Rattle.bbop_isa.specs.Forms.{Fill}
-use Rattle.machine_model.specs.Columns.{segments}
-use Rattle.machine_model.specs.Refusals.{refusal}
-use Rattle.machine_model.specs.Steps.{counts_for, fill_events, own_events}
 use Rattle.object_steps.proofs.Done.{did_all, did_nothing, replies_done, replies_refused}
 use Rattle.object_steps.proofs.Done.{stopped_all}
 use Rattle.object_steps.proofs.Filled.{on_err}

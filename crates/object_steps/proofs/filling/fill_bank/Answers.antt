@@ -1,13 +1,7 @@
-use Rattle.std.proofs.Common.{◌≡◌, ℕ, ◌+◌, ◌∙◌, ap, arith}
-use Rattle.bit_rows.specs.Bits.{bit_at, bit_number}
-use Rattle.dram_model.specs.declared.dram.Counters.{Counters}
-use Rattle.dram_model.specs.declared.address.Command.TheVariants.{Aap}
-use Rattle.dram_model.specs.declared.address.Addr.TheVariants as addr
-use Rattle.dram_model.specs.declared.geometry.Geometry.{Geometry}
-use Rattle.dram_model.specs.Chip.{Banks}
-use Rattle.dram_model.specs.Chip.Event.{Row}
+use Rattle.object_steps.proofs.Common.{◌≡◌, ℕ, ◌+◌, ◌∙◌, ap, arith, bit_at, bit_number, Counters}
+use Rattle.object_steps.proofs.Common.{Aap, Geometry, Banks, Row, Kept-more}
 use Rattle.dram_model.specs.View.{FailedIn}
-use Rattle.dram_model.proofs.EventLaws.{Kept-more}
+use Rattle.dram_model.specs.declared.address.Addr.TheVariants as addr
 use Rattle.object_steps.proofs.Filled.{is_given, next_row, on_err, rows_others, given_as}
 use Rattle.object_steps.proofs.filling.fill_bank.Goals as goal
 

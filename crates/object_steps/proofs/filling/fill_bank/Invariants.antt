@@ -1,10 +1,6 @@
-use Rattle.std.proofs.Common.{◌≡◌, ◌+◌, map}
-use Rattle.std.specs.List.{range_with_len}
-use Rattle.bit_rows.specs.Bits.{bit_at, bit_number}
-use Rattle.dram_model.specs.declared.address.Command.TheVariants.{Aap}
+use Rattle.object_steps.proofs.Common.{◌≡◌, ◌+◌, map, range_with_len, bit_at, bit_number, Aap, Row}
+use Rattle.object_steps.proofs.Common.{Kept, Did}
 use Rattle.dram_model.specs.declared.address.Addr.TheVariants as addr
-use Rattle.dram_model.specs.Chip.Event.{Row}
-use Rattle.dram_model.specs.View.{Kept, Did}
 use Rattle.object_steps.proofs.filling.fill_bank.Given as goal
 
 -- the rows so far took their bits

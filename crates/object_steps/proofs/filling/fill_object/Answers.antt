@@ -1,19 +1,10 @@
-use Rattle.std.specs.Prelude.{flat_map}
-use Rattle.std.specs.List.{range_with_len}
-use Rattle.std.proofs.lemmas.Bool.Decides.{nat_tests}
-use Rattle.bit_rows.specs.Bits.{bit_at, bit_number}
-use Rattle.dram_model.specs.declared.address.Command.TheVariants.{Aap}
-use Rattle.dram_model.specs.declared.address.Addr.TheVariants as addr
-use Rattle.dram_model.specs.Chip.Event.{Row}
-use Rattle.object_steps.proofs.Rises.{few_events, few_rows}
-use Rattle.std.proofs.Common.{◌≤◌, ◌≢◌, ◌∙◌, ◌*◌, ◌+◌, ◌<◌, ap, arith}
-use Rattle.dram_model.specs.Chip.{Banks}
+use Rattle.object_steps.proofs.Common.{flat_map, range_with_len, nat_tests, bit_at, bit_number, Aap}
+use Rattle.object_steps.proofs.Common.{Row, ◌≤◌, ◌≢◌, ◌∙◌, ◌*◌, ◌+◌, ◌<◌, ap, arith, Banks}
+use Rattle.object_steps.proofs.Common.{StoppedWithin, Kept-more, segments, fill_events}
 use Rattle.dram_model.specs.Elements.{FailedBelow}
-use Rattle.transpose_unit.specs.Stopped.{StoppedWithin}
-use Rattle.dram_model.proofs.EventLaws.{Kept-more}
 use Rattle.transpose_unit.proofs.Stopping.{stopped_turn}
-use Rattle.machine_model.specs.Columns.{segments}
-use Rattle.machine_model.specs.Steps.{fill_events}
+use Rattle.dram_model.specs.declared.address.Addr.TheVariants as addr
+use Rattle.object_steps.proofs.Rises.{few_events, few_rows}
 use Rattle.object_steps.specs.Objects.{filled_in}
 use Rattle.object_steps.proofs.Filled.{next_bank, on_err, filled_others, one_times_more}
 use Rattle.object_steps.proofs.filling.fill_object.Goals as goal

@@ -1,7 +1,4 @@
-use Rattle.std.proofs.Common.{◌≡◌, ◌+◌, ◌*◌, ◌≤◌, ℕ}
-use Rattle.std.specs.Prelude.{flat_map}
-use Rattle.std.specs.List.{range_with_len}
-use Rattle.dram_model.specs.View.{Kept, Did}
+use Rattle.object_steps.proofs.Common.{◌≡◌, ◌+◌, ◌*◌, ◌≤◌, ℕ, flat_map, range_with_len, Kept, Did}
 use Rattle.object_steps.specs.Objects.{filled_in}
 use Rattle.object_steps.proofs.filling.fill_object.Given as goal
 

@@ -1,6 +1,6 @@
-use Rattle.std.proofs.Common.{[], ◌∷◌, ◌^◌, nat_le}
+use Rattle.object_steps.proofs.Common.{[], ◌∷◌, nat_le, rows_of, when}
+use Rattle.std.proofs.Common.{◌^◌}
 use Rattle.machine_model.specs.declared.Why.TheVariants as why
-use Rattle.machine_model.specs.Refusals.{rows_of, when}
 use Rattle.object_steps.proofs.filling.fillable.Goals as goal
 
 pub returns-in-Err-clause-refused : goal.returns-in-Err-clause-refused

@@ -1,9 +1,5 @@
-use Rattle.std.proofs.Common.{◌≤◌, ◌∙◌, sym}
-use Rattle.object_alloc.specs.declared.table.Object.{Object}
-use Rattle.object_alloc.specs.Free.{end_of}
-use Rattle.object_alloc.specs.Listed.{limit_of}
-use Rattle.object_alloc.specs.Spelling.{IsObject}
-use Rattle.machine_model.specs.Refusals.{goes_past, is_absent, object_named}
+use Rattle.object_steps.proofs.Common.{◌≤◌, ◌∙◌, sym, Object, end_of, limit_of, IsObject, goes_past}
+use Rattle.object_steps.proofs.Common.{is_absent, object_named}
 use Rattle.object_steps.proofs.Found.{absent, absent_refused, named_holds, part_fits, part_low}
 use Rattle.object_steps.proofs.Found.{past_refused, there}
 use Rattle.object_steps.proofs.finding.found.Goals as goal

@@ -1,7 +1,5 @@
-use Rattle.std.proofs.Common.{◌∙◌, ap}
+use Rattle.object_steps.proofs.Common.{◌∙◌, ap, refl, Listing}
 use Rattle.object_steps.proofs.Lying.{lies_without}
-use Rattle.std.proofs.Common.{refl}
-use Rattle.object_alloc.specs.Listed.{Listing}
 use Rattle.object_steps.proofs.Found.{there, absent, has_none, without_absent}
 use Rattle.object_steps.proofs.listing.free.Goals as goal
 

@@ -1,5 +1,4 @@
-use Rattle.std.proofs.Common.{arith, true, false, None, Some}
-use Rattle.object_alloc.specs.Listed.{objects_of}
+use Rattle.object_steps.proofs.Common.{arith, true, false, None, Some, objects_of}
 use Rattle.object_steps.proofs.Making.{tells, exists, is_full, too_large, no_rows, may_be_made}
 use Rattle.object_steps.proofs.Making.{at_limit}
 use Rattle.object_steps.proofs.listing.place.Goals as goal

@@ -1,10 +1,6 @@
-use Rattle.std.proofs.Common.{arith, refl}
-use Rattle.dram_model.proofs.EventLaws.{Kept-same}
-use Rattle.object_alloc.specs.declared.table.Object.{Object}
-use Rattle.object_alloc.specs.Listed.{limit_of, objects_of}
-use Rattle.bbop_isa.specs.Forms.{Init}
-use Rattle.machine_model.specs.Refusals.{refusal}
-use Rattle.machine_model.specs.Steps.{counts_for, own_events, tabled}
+use Rattle.object_steps.proofs.Common.{arith, refl, Kept-same, Object, limit_of, objects_of, Init}
+use Rattle.object_steps.proofs.Common.{refusal, counts_for, own_events}
+use Rattle.machine_model.specs.Steps.{tabled}
 use Rattle.object_steps.proofs.Done.{did_nothing, found_free, found_within, replies_refused}
 use Rattle.object_steps.proofs.Done.{same_after}
 use Rattle.object_steps.proofs.Lying.{lies_with}

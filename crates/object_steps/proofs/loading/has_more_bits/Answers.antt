@@ -1,4 +1,4 @@
-use Rattle.std.proofs.Common.{arith}
+use Rattle.object_steps.proofs.Common.{arith}
 use Rattle.object_steps.proofs.Fewer.{has_more, has_no_more}
 use Rattle.object_steps.proofs.loading.has_more_bits.Goals as goal
 

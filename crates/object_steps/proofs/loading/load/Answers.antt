@@ -1,15 +1,8 @@
-use Rattle.std.proofs.Common.{◌∙◌, ◌+◌, ◌*◌, ap, subst, List, refl}
-use Rattle.dram_model.proofs.EventLaws.{Kept-same}
-use Rattle.dram_model.specs.Chip.{Event}
-use Rattle.dram_model.specs.Chip.Event.{Write}
+use Rattle.object_steps.proofs.Common.{◌∙◌, ◌+◌, ◌*◌, ap, subst, List, refl, Kept-same, Event}
+use Rattle.object_steps.proofs.Common.{Write, Did, StoppedWithin, Object, Load, segments, refusal}
+use Rattle.object_steps.proofs.Common.{counts_for, load_events, own_events}
 use Rattle.dram_model.specs.Elements.{padded_to, row_bits}
-use Rattle.dram_model.specs.View.{Did}
-use Rattle.transpose_unit.specs.Stopped.{StoppedWithin}
-use Rattle.object_alloc.specs.declared.table.Object.{Object}
-use Rattle.bbop_isa.specs.Forms.{Load}
-use Rattle.machine_model.specs.Columns.{object_size, segments}
-use Rattle.machine_model.specs.Refusals.{refusal}
-use Rattle.machine_model.specs.Steps.{counts_for, load_events, own_events}
+use Rattle.machine_model.specs.Columns.{object_size}
 use Rattle.object_steps.proofs.Done.{did_all, did_nothing, replies_done, replies_refused}
 use Rattle.object_steps.proofs.Done.{stopped_all}
 use Rattle.object_steps.proofs.Filled.{on_err}

@@ -1,6 +1,7 @@
-use Rattle.std.proofs.Common.{[], ◌∷◌, ◌^◌, arith, eqb, length, map, nat_le, not}
+use Rattle.object_steps.proofs.Common.{[], ◌∷◌, arith, length, map, nat_le, not, at_place, rows_of}
+use Rattle.object_steps.proofs.Common.{when}
+use Rattle.std.proofs.Common.{◌^◌, eqb}
 use Rattle.machine_model.specs.declared.Why.TheVariants as why
-use Rattle.machine_model.specs.Refusals.{at_place, rows_of, when}
 use Rattle.object_steps.proofs.Done.{load_refused, load_allowed}
 use Rattle.object_steps.proofs.Refused.{all_small}
 use Rattle.object_steps.proofs.loading.loadable.Goals as goal

@@ -1,8 +1,6 @@
-use Rattle.std.proofs.Common.{◌≡◌, ℕ, ◌+◌, ◌++◌, ◌∙◌, List, take, drop, ap}
-use Rattle.std.proofs.Common.{append_assoc, arith, subst, sym, get_or, refl}
-use Rattle.std.specs.Prelude.{codes, decimal}
-use Rattle.host_edge.specs.Views.{Known, AppendsPart}
-use Rattle.host_edge.specs.Sends.{AppendsUpTo}
+use Rattle.object_steps.proofs.Common.{◌≡◌, ℕ, ◌+◌, ◌++◌, ◌∙◌, List, take, drop, ap, append_assoc}
+use Rattle.object_steps.proofs.Common.{arith, subst, sym, get_or, refl, codes, decimal, Known}
+use Rattle.object_steps.proofs.Common.{AppendsPart, AppendsUpTo}
 use Rattle.object_steps.specs.Lines.{values_text}
 use Rattle.object_steps.proofs.Filled.{on_err}
 use Rattle.object_steps.proofs.Held.{then_more, then_part, part_of_more}

@@ -1,6 +1,4 @@
-use Rattle.std.proofs.Common.{◌<◌, ◌≤◌, ◌++◌, length, take}
-use Rattle.host_edge.specs.Views.{Known}
-use Rattle.host_edge.specs.Sends.{AppendsUpTo}
+use Rattle.object_steps.proofs.Common.{◌<◌, ◌≤◌, ◌++◌, length, take, Known, AppendsUpTo}
 use Rattle.object_steps.specs.Lines.{values_text}
 use Rattle.object_steps.proofs.printing.add_all.Given as goal
 

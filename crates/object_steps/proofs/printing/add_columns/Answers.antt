@@ -1,10 +1,7 @@
-use Rattle.std.proofs.Common.{◌≡◌, ℕ, ◌+◌, ◌*◌, ◌/◌, ◌≤◌, ◌++◌, ◌∙◌, List, length, map, take, drop}
-use Rattle.std.proofs.Common.{append_assoc, arith, subst, sym, ap}
-use Rattle.std.specs.Prelude.{min}
-use Rattle.std.specs.List.{range_with_len}
-use Rattle.host_edge.specs.Views.{Known, AppendsPart}
-use Rattle.host_edge.specs.Sends.{AppendsUpTo}
-use Rattle.transpose_unit.specs.Stage.{stage_number, stage_rows}
+use Rattle.object_steps.proofs.Common.{◌≡◌, ℕ, ◌+◌, ◌*◌, ◌/◌, ◌≤◌, ◌++◌, ◌∙◌, List, length, map}
+use Rattle.object_steps.proofs.Common.{take, drop, append_assoc, arith, subst, sym, ap, min}
+use Rattle.object_steps.proofs.Common.{range_with_len, Known, AppendsPart, AppendsUpTo}
+use Rattle.object_steps.proofs.Common.{stage_number, stage_rows}
 use Rattle.object_steps.specs.Lines.{values_text}
 use Rattle.object_steps.proofs.Filled.{on_err}
 use Rattle.object_steps.proofs.Held.{then_more, then_cut, part_of_more}

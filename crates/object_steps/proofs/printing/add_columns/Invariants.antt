@@ -1,9 +1,5 @@
-use Rattle.std.proofs.Common.{◌*◌, ◌/◌, ◌<◌, ◌≤◌, ◌++◌, length, map}
-use Rattle.std.specs.Prelude.{min}
-use Rattle.std.specs.List.{range_with_len}
-use Rattle.host_edge.specs.Views.{Known}
-use Rattle.host_edge.specs.Sends.{AppendsUpTo}
-use Rattle.transpose_unit.specs.Stage.{stage_number, stage_rows}
+use Rattle.object_steps.proofs.Common.{◌*◌, ◌/◌, ◌<◌, ◌≤◌, ◌++◌, length, map, min, range_with_len}
+use Rattle.object_steps.proofs.Common.{Known, AppendsUpTo, stage_number, stage_rows}
 use Rattle.object_steps.specs.Lines.{values_text}
 use Rattle.object_steps.proofs.printing.add_columns.Given as goal
 

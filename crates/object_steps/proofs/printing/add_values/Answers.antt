@@ -1,16 +1,9 @@
-use Rattle.std.proofs.Common.{◌≡◌, ℕ, ◌+◌, ◌*◌, ◌/◌, ◌<◌, ◌≤◌, ◌++◌, ◌∙◌, List, length, map}
-use Rattle.std.proofs.Common.{[], ap, arith, subst}
-use Rattle.std.specs.List.{range_with_len}
-use Rattle.std.proofs.lemmas.Bool.Decides.{nat_tests}
-use Rattle.host_edge.specs.Views.{Known, AppendsPart}
-use Rattle.host_edge.specs.Sends.{AppendsUpTo}
-use Rattle.dram_model.specs.declared.geometry.Geometry.{Geometry}
-use Rattle.dram_model.specs.Chip.{Banks}
-use Rattle.dram_model.specs.View.{DidRead}
-use Rattle.dram_model.proofs.EventLaws.{DidRead-more, Grew-more, Kept-more}
+use Rattle.object_steps.proofs.Common.{◌≡◌, ℕ, ◌+◌, ◌*◌, ◌/◌, ◌<◌, ◌≤◌, ◌++◌, ◌∙◌, List, length}
+use Rattle.object_steps.proofs.Common.{map, [], ap, arith, subst, range_with_len, nat_tests, Known}
+use Rattle.object_steps.proofs.Common.{AppendsPart, AppendsUpTo, Geometry, Banks, DidRead}
+use Rattle.object_steps.proofs.Common.{Kept-more, stage_number, stage_rows, segments}
+use Rattle.dram_model.proofs.EventLaws.{DidRead-more, Grew-more}
 use Rattle.transpose_unit.proofs.Stopping.{stopped_first}
-use Rattle.transpose_unit.specs.Stage.{stage_number, stage_rows}
-use Rattle.machine_model.specs.Columns.{segments}
 use Rattle.object_steps.specs.Lines.{values_text}
 use Rattle.object_steps.proofs.Filled.{one_times_more}
 use Rattle.object_steps.proofs.Held.{part_of_more, put_is_part, then_cut, then_more}

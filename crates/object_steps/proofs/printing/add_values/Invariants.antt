@@ -1,7 +1,5 @@
-use Rattle.std.proofs.Common.{◌≡◌, ◌*◌, ◌<◌, ◌≤◌, ◌++◌, length}
-use Rattle.host_edge.specs.Views.{Known}
-use Rattle.host_edge.specs.Sends.{AppendsUpTo}
-use Rattle.dram_model.specs.View.{DidRead, Kept}
+use Rattle.object_steps.proofs.Common.{◌≡◌, ◌*◌, ◌<◌, ◌≤◌, ◌++◌, length, Known, AppendsUpTo}
+use Rattle.object_steps.proofs.Common.{DidRead, Kept}
 use Rattle.object_steps.specs.Lines.{values_text}
 use Rattle.object_steps.proofs.Valued.{first_values}
 use Rattle.object_steps.proofs.printing.add_values.Given as goal

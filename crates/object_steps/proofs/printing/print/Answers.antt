@@ -1,14 +1,10 @@
-use Rattle.std.proofs.Common.{◌≡◌, ◌++◌, ◌∙◌, List, [], ℕ, arith, refl, subst, take}
-use Rattle.std.specs.Prelude.{codes}
-use Rattle.host_edge.specs.Views.{Known, AppendsPart}
-use Rattle.dram_model.proofs.EventLaws.{Grew-none, Kept-same}
-use Rattle.machine_model.specs.Columns.{columns}
+use Rattle.object_steps.proofs.Common.{◌≡◌, ◌++◌, ◌∙◌, List, [], ℕ, arith, refl, subst, take, codes}
+use Rattle.object_steps.proofs.Common.{Known, AppendsPart, Grew-none, Kept-same, columns, refusal}
+use Rattle.object_steps.proofs.Common.{place_text, counts_for}
 use Rattle.bbop_isa.specs.Forms.{Print}
-use Rattle.machine_model.specs.Refusals.{refusal}
-use Rattle.machine_model.specs.Report.{line, place_text}
+use Rattle.machine_model.specs.Report.{line}
 use Rattle.machine_model.specs.Report.Said.{Printed}
 use Rattle.machine_model.specs.Script.{rows_printed}
-use Rattle.machine_model.specs.Steps.{counts_for}
 use Rattle.object_steps.specs.Lines.{values_of, values_text}
 use Rattle.object_steps.proofs.Done.{did_not_read, replies_refused, sent_nothing}
 use Rattle.object_steps.proofs.Filled.{on_err}

@@ -1,4 +1,4 @@
-use Rattle.std.proofs.Common.{◌++◌, ◌∷◌, [], ap, ◌∙◌, sym}
+use Rattle.optimise_job.proofs.Common.{◌++◌, ◌∷◌, [], ap, ◌∙◌, sym}
 use Rattle.optimise_job.proofs.Pushed.{taken}
 use Rattle.optimise_job.proofs.copied.code_of.Goals as goal
 

@@ -1,4 +1,4 @@
-use Rattle.std.proofs.Common.{◌≡◌, take}
+use Rattle.optimise_job.proofs.Common.{◌≡◌, take}
 use Rattle.optimise_job.proofs.copied.code_of.Given as goal
 
 -- the first instructions

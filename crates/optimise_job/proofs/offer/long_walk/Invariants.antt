@@ -1,7 +1,4 @@
-use Rattle.std.proofs.Common.{ℕ, ◌<◌, ◌≤◌}
-use Rattle.std.specs.Prelude.{◌≢◌}
-use Rattle.uprog_code.specs.Shape.{shape_of}
-use Rattle.uprog_code.specs.Machine.{HasEnded, trace}
+use Rattle.optimise_job.proofs.Common.{ℕ, ◌<◌, ◌≤◌, ◌≢◌, shape_of, HasEnded, trace}
 use Rattle.optimise_job.proofs.offer.long_walk.Given as goal
 
 -- up to the widths so far the walk ends where the entry's does

@@ -1,6 +1,4 @@
-use Rattle.std.proofs.Common.{sym, subst}
-use Rattle.uprog_code.specs.Shape.{Shape}
-use Rattle.uprog_code.specs.Machine.{HasEnded, trace}
+use Rattle.optimise_job.proofs.Common.{sym, subst, Shape, HasEnded, trace}
 use Rattle.optimise_job.proofs.offer.said.Goals as goal
 
 pub verify_entry-requires-clause-made_ends : goal.verify_entry-requires-clause-made_ends

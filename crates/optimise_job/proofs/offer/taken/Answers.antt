@@ -1,5 +1,4 @@
-use Rattle.uprog_code.specs.Shape.{Microprogram, microprogram_of}
-use Rattle.width_entry.specs.Lines.{issues}
+use Rattle.optimise_job.proofs.Common.{Microprogram, microprogram_of, issues}
 use Rattle.optimise_job.proofs.Offers.{is_shorter}
 use Rattle.optimise_job.proofs.offer.taken.Goals as goal
 

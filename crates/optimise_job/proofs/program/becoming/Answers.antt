@@ -1,8 +1,6 @@
-use Rattle.std.proofs.Common.{◌≡◌, ℕ, ◌<◌, ◌∙◌, ap, subst, length, List, map}
-use Rattle.std.specs.Prelude.{bytes_eq, position, slice_index_or}
-use Rattle.uprog_code.specs.declared.code.EntryCode.{EntryCode}
-use Rattle.uprog_code.specs.Shape.{Microprogram, microprogram_of}
-use Rattle.uprog_code.specs.Texts.{EntryDoes, ImplementsAll, TextOp}
+use Rattle.optimise_job.proofs.Common.{◌≡◌, ℕ, ◌<◌, ◌∙◌, ap, subst, length, List, map, bytes_eq}
+use Rattle.optimise_job.proofs.Common.{position, slice_index_or, EntryCode, Microprogram}
+use Rattle.optimise_job.proofs.Common.{microprogram_of, EntryDoes, ImplementsAll, TextOp}
 use Rattle.optimise_job.specs.declared.offer.Offered.{Offered}
 use Rattle.optimise_job.specs.Outcomes.{IsOfferOf, IsOutcome}
 use Rattle.optimise_job.proofs.Found.{entry_there, none_named, op_there_named}

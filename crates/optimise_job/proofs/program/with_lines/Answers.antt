@@ -1,10 +1,7 @@
-use Rattle.std.proofs.Common.{◌≡◌, ◌+◌, ◌-◌, ◌<◌, ◌≤◌, List, [], ◌∷◌, ◌++◌, length, map, take, sym, ap}
-use Rattle.std.proofs.Common.{◌∙◌, subst, arith}
-use Rattle.std.specs.Prelude.{slice_index_or}
-use Rattle.std.specs.List.{AllByRecursion}
-use Rattle.std.proofs.lemmas.List.{map-append, take_all}
-use Rattle.uprog_code.specs.declared.registers.Issued.{Issued}
-use Rattle.uprog_code.specs.Shape.{microprogram_of}
+use Rattle.optimise_job.proofs.Common.{◌≡◌, ◌+◌, ◌-◌, ◌<◌, ◌≤◌, List, [], ◌∷◌, ◌++◌, length, map}
+use Rattle.optimise_job.proofs.Common.{take, sym, ap, ◌∙◌, subst, arith, slice_index_or}
+use Rattle.optimise_job.proofs.Common.{AllByRecursion, map-append, Issued, microprogram_of}
+use Rattle.std.proofs.lemmas.List.{take_all}
 use Rattle.uprog_bin.specs.Opened.{program_of}
 use Rattle.optimise_job.specs.Outcomes.{IsOutcome, lines_of}
 use Rattle.optimise_job.specs.Promise.{AreAsGood}

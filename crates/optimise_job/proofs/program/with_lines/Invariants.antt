@@ -1,7 +1,5 @@
-use Rattle.std.proofs.Common.{◌≡◌, List, map, take}
-use Rattle.std.specs.List.{AllByRecursion}
-use Rattle.uprog_code.specs.Shape.{microprogram_of}
-use Rattle.uprog_code.specs.Texts.{ImplementsAll, TextOp}
+use Rattle.optimise_job.proofs.Common.{◌≡◌, List, map, take, AllByRecursion, microprogram_of}
+use Rattle.optimise_job.proofs.Common.{ImplementsAll, TextOp}
 use Rattle.optimise_job.specs.Outcomes.{AreOutcomes, lines_of}
 use Rattle.optimise_job.proofs.Pushed.{HasLegalCode, room_left}
 use Rattle.optimise_job.proofs.program.with_lines.Given as goal

@@ -1,6 +1,4 @@
-use Rattle.std.proofs.Common.{◌≡◌, ◌<◌, subst, length, List}
-use Rattle.std.specs.Prelude.{slice_index_or}
-use Rattle.uprog_code.specs.declared.code.EntryCode.{EntryCode}
+use Rattle.optimise_job.proofs.Common.{◌≡◌, ◌<◌, subst, length, List, slice_index_or, EntryCode}
 use Rattle.optimise_job.proofs.Found.{entry_there}
 use Rattle.optimise_job.proofs.search.searched_line.Goals as goal
 

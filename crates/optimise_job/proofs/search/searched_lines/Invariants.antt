@@ -1,4 +1,4 @@
-use Rattle.std.proofs.Common.{◌≡◌, length}
+use Rattle.optimise_job.proofs.Common.{◌≡◌, length}
 use Rattle.optimise_job.proofs.search.searched_lines.Given as goal
 
 -- a line for each entry so far

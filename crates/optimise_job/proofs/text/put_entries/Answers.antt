@@ -1,9 +1,7 @@
-use Rattle.std.proofs.Common.{◌∙◌, ◌++◌, ◌∷◌, [], ℕ, List, map, flat_map, sym, ap}
-use Rattle.std.proofs.lemmas.List.{map-append}
+use Rattle.optimise_job.proofs.Common.{◌∙◌, ◌++◌, ◌∷◌, [], ℕ, List, map, flat_map, sym, ap}
+use Rattle.optimise_job.proofs.Common.{map-append, EntryCode, microprogram_of}
 use Rattle.std.proofs.lemmas.Iterator.{YieldsList-from_slice, YieldsList-from_zip}
 use Rattle.std.proofs.lemmas.Iterator.Consumers.{YieldsList-at, YieldsList-end}
-use Rattle.uprog_code.specs.declared.code.EntryCode.{EntryCode}
-use Rattle.uprog_code.specs.Shape.{microprogram_of}
 use Rattle.optimise_job.specs.declared.offer.Outcome.{Outcome}
 use Rattle.optimise_job.specs.Report.{entry_line}
 use Rattle.optimise_job.proofs.Written.{one_more, zip_read}

@@ -1,6 +1,4 @@
-use Rattle.std.proofs.Common.{◌≡◌, ◌++◌, map, flat_map}
-use Rattle.uprog_code.specs.declared.code.EntryCode.{EntryCode}
-use Rattle.uprog_code.specs.Shape.{microprogram_of}
+use Rattle.optimise_job.proofs.Common.{◌≡◌, ◌++◌, map, flat_map, EntryCode, microprogram_of}
 use Rattle.optimise_job.specs.declared.offer.Outcome.{Outcome}
 use Rattle.optimise_job.specs.Report.{entry_line}
 use Rattle.optimise_job.proofs.text.put_entries.Given as goal

@@ -1,4 +1,4 @@
-use Rattle.std.proofs.Common.{◌≡◌, ◌<◌, ℕ, Some}
+use Rattle.row_alloc.proofs.Common.{◌≡◌, ◌<◌, ℕ, Some}
 use Rattle.row_alloc.specs.Rows.{out_at}
 use Rattle.row_alloc.proofs.found.are_inputs.Given as goal
 

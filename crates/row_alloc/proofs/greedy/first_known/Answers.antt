@@ -1,4 +1,4 @@
-use Rattle.std.proofs.Common.{◌∙◌, ap, arith}
+use Rattle.row_alloc.proofs.Common.{◌∙◌, ap, arith}
 use Rattle.row_alloc.specs.Known.{Serves, known_at}
 use Rattle.row_alloc.proofs.Chosen.{first_least, first_same, none_more}
 use Rattle.row_alloc.proofs.greedy.first_known.Goals as goal

@@ -1,4 +1,4 @@
-use Rattle.std.proofs.Common.{◌<◌, ℕ}
+use Rattle.row_alloc.proofs.Common.{◌<◌, ℕ}
 use Rattle.row_alloc.specs.Known.{Serves, known_at}
 use Rattle.row_alloc.proofs.greedy.first_known.Given as goal
 

@@ -1,5 +1,4 @@
-use Rattle.std.proofs.Common.{arith}
-use Rattle.std.proofs.lemmas.Result.{IfOk-weaker}
+use Rattle.row_alloc.proofs.Common.{arith, IfOk-weaker}
 use Rattle.row_alloc.proofs.greedy.given_body.Goals as goal
 use Rattle.row_alloc.proofs.greedy.given_body.Goals.{in_default-via-in-Some+else-first-len}
 use Rattle.row_alloc.proofs.greedy.given_body.Goals.{in_default-via-in_default}

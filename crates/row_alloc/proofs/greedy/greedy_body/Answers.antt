@@ -1,5 +1,4 @@
-use Rattle.std.proofs.Common.{◌≤◌, ◌∙◌, ap, arith, length}
-use Rattle.std.proofs.lemmas.Result.{IfOk-weaker}
+use Rattle.row_alloc.proofs.Common.{◌≤◌, ◌∙◌, ap, arith, length, IfOk-weaker}
 use Rattle.row_alloc.specs.Known.{known_at}
 use Rattle.row_alloc.specs.Length.{plain_length}
 use Rattle.row_alloc.proofs.greedy.greedy_body.Goals as goal

@@ -1,4 +1,4 @@
-use Rattle.std.proofs.Common.{sym, []}
+use Rattle.row_alloc.proofs.Common.{sym, []}
 use Rattle.std.proofs.lemmas.List.{get_or-map}
 use Rattle.row_alloc.proofs.greedy.nth.Goals as goal
 

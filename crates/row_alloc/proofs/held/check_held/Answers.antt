@@ -1,8 +1,7 @@
-use Rattle.std.proofs.Common.{◌≡◌, ◌<◌, ◌↔◌, IsTrue, ℕ, Bool, true, List, length, ◌∙◌, sym, refl}
-use Rattle.std.proofs.Common.{Some, map}
-use Rattle.std.specs.List.{AllByRecursion, list_all}
+use Rattle.row_alloc.proofs.Common.{◌≡◌, ◌<◌, ℕ, Bool, true, List, length, ◌∙◌, sym, refl, Some}
+use Rattle.row_alloc.proofs.Common.{AllByRecursion, list_all, Graph}
+use Rattle.std.proofs.Common.{◌↔◌, IsTrue, map}
 use Rattle.dram_model.specs.declared.address.Cell.TheVariants.{D as CellD}
-use Rattle.mig_graph.specs.Graph.{Graph}
 use Rattle.row_alloc.specs.declared.body.BodyCmd.{BodyCmd}
 use Rattle.row_alloc.specs.declared.body.OutRow.{OutRow}
 use Rattle.row_alloc.specs.declared.body.Held.{Held}

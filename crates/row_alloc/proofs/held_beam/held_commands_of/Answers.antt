@@ -1,6 +1,6 @@
-use Rattle.std.proofs.Common.{arith, Option, Some, None}
+use Rattle.row_alloc.proofs.Common.{arith, Some, None, IfOk-weaker}
+use Rattle.std.proofs.Common.{Option}
 use Rattle.std.specs.Prelude.{IfNone}
-use Rattle.std.proofs.lemmas.Result.{IfOk-weaker}
 use Rattle.std.proofs.lemmas.Option.{IfSome_then}
 use Rattle.row_alloc.proofs.held_beam.held_commands_of.Goals as goal
 use Rattle.row_alloc.proofs.held_beam.held_commands_of.Goals.{in_default-via-in_default}

@@ -1,4 +1,4 @@
-use Rattle.std.proofs.Common.{arith}
+use Rattle.row_alloc.proofs.Common.{arith}
 use Rattle.row_alloc.specs.Known.{ServesHeld, held_at}
 use Rattle.row_alloc.proofs.Chosen.{none_more, held_least}
 use Rattle.row_alloc.proofs.known_held.first_held.Goals as goal

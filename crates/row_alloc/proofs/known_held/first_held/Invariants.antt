@@ -1,4 +1,4 @@
-use Rattle.std.proofs.Common.{◌<◌, ℕ}
+use Rattle.row_alloc.proofs.Common.{◌<◌, ℕ}
 use Rattle.row_alloc.specs.Known.{ServesHeld, held_at}
 use Rattle.row_alloc.proofs.known_held.first_held.Given as goal
 

@@ -1,4 +1,4 @@
-use Rattle.std.proofs.Common.{◌≢◌, ◌<◌, ℕ, Some}
+use Rattle.row_alloc.proofs.Common.{◌≢◌, ◌<◌, ℕ, Some}
 use Rattle.row_alloc.specs.Body.{command_at}
 use Rattle.row_alloc.specs.Order.{input_taken}
 use Rattle.row_alloc.proofs.order.is_kept.Given as goal

@@ -1,4 +1,4 @@
-use Rattle.std.proofs.Common.{◌∙◌, ap, refl, arith}
+use Rattle.row_alloc.proofs.Common.{◌∙◌, ap, refl, arith}
 use Rattle.row_alloc.specs.Order.{input_below}
 use Rattle.row_alloc.proofs.order.writes_late.Goals as goal
 

@@ -1,4 +1,4 @@
-use Rattle.std.proofs.Common.{◌<◌, ℕ}
+use Rattle.row_alloc.proofs.Common.{◌<◌, ℕ}
 use Rattle.row_alloc.specs.Order.{ReadsKept}
 use Rattle.row_alloc.proofs.order.writes_late.Given as goal
 

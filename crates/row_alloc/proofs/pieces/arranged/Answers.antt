@@ -1,4 +1,4 @@
-use Rattle.std.proofs.Common.{◌≡◌, arith, ◌+◌, ◌-◌}
+use Rattle.row_alloc.proofs.Common.{◌≡◌, arith, ◌+◌, ◌-◌}
 use Rattle.row_alloc.proofs.pieces.arranged.Goals as goal
 
 pub returns-clause-order : goal.returns-clause-order

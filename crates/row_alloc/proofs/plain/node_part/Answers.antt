@@ -1,5 +1,4 @@
-use Rattle.std.proofs.Common.{◌≡◌, ◌<◌, ℕ, length, arith, subst}
-use Rattle.std.proofs.lemmas.Grind.{common_steps}
+use Rattle.row_alloc.proofs.Common.{◌≡◌, ◌<◌, ℕ, length, arith, subst, common_steps}
 use Rattle.row_alloc.specs.Phases.{Prepares}
 use Rattle.row_alloc.proofs.Sequence.{prepares-node}
 use Rattle.row_alloc.proofs.plain.node_part.Goals as goal

@@ -1,4 +1,4 @@
-use Rattle.std.proofs.Common.{◌≡◌, ◌*◌, List, length}
+use Rattle.row_alloc.proofs.Common.{◌≡◌, ◌*◌, List, length}
 use Rattle.row_alloc.specs.Phases.{Prepares}
 use Rattle.row_alloc.specs.declared.body.OutRow.{OutRow}
 use Rattle.row_alloc.proofs.plain.node_part.Given as goal

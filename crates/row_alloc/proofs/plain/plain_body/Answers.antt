@@ -1,8 +1,6 @@
-use Rattle.std.proofs.Common.{◌≤◌, ◌*◌, Bool, true, false, List, [], ◌∷◌, length, arith}
-use Rattle.std.specs.Prelude.{sum_by, if◌then◌else◌}
+use Rattle.row_alloc.proofs.Common.{◌≤◌, ◌*◌, Bool, true, false, List, [], ◌∷◌, length, arith}
+use Rattle.row_alloc.proofs.Common.{sum_by, if◌then◌else◌, IfOk-weaker, is_complemented}
 use Rattle.std.proofs.lemmas.List.Sums.{sum_by-cons}
-use Rattle.std.proofs.lemmas.Result.{IfOk-weaker}
-use Rattle.mig_graph.specs.Literals.{is_complemented}
 use Rattle.row_alloc.specs.declared.body.OutRow.{OutRow}
 use Rattle.row_alloc.specs.Length.{output_length}
 use Rattle.row_alloc.proofs.plain.plain_body.Goals as goal

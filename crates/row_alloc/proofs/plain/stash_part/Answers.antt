@@ -1,9 +1,7 @@
-use Rattle.std.proofs.Common.{◌≡◌, ◌<◌, ℕ, Bool, List, ◌++◌, length, arith, ◌+◌, if◌then◌else◌}
-use Rattle.std.proofs.Common.{true, false, [], ◌∷◌, length-append}
-use Rattle.std.specs.Prelude.{take, sum_by}
+use Rattle.row_alloc.proofs.Common.{◌≡◌, ◌<◌, ℕ, Bool, List, ◌++◌, length, arith, ◌+◌, true, false}
+use Rattle.row_alloc.proofs.Common.{[], ◌∷◌, length-append, take, sum_by, Graph, is_complemented}
+use Rattle.std.proofs.Common.{if◌then◌else◌}
 use Rattle.std.proofs.lemmas.List.Sums.{sum_by_more}
-use Rattle.mig_graph.specs.Graph.{Graph}
-use Rattle.mig_graph.specs.Literals.{is_complemented}
 use Rattle.row_alloc.specs.declared.body.OutRow.{OutRow}
 use Rattle.row_alloc.specs.declared.body.BodyCmd.{BodyCmd}
 use Rattle.row_alloc.specs.declared.body.BodyCmd.TheVariants.{Aap}

@@ -1,5 +1,4 @@
-use Rattle.std.proofs.Common.{◌≡◌, ◌+◌, length}
-use Rattle.std.specs.Prelude.{take, sum_by}
+use Rattle.row_alloc.proofs.Common.{◌≡◌, ◌+◌, length, take, sum_by}
 use Rattle.row_alloc.specs.Length.{output_length}
 use Rattle.row_alloc.specs.Phases.{Prepares}
 use Rattle.row_alloc.proofs.plain.stash_part.Given as goal

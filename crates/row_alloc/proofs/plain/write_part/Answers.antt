@@ -1,6 +1,5 @@
-use Rattle.std.proofs.Common.{◌≡◌, ◌<◌, ℕ, List, ◌++◌, [], ◌∷◌, length, arith, ◌+◌, subst}
-use Rattle.std.proofs.lemmas.Grind.{common_steps}
-use Rattle.mig_graph.specs.Graph.{Graph}
+use Rattle.row_alloc.proofs.Common.{◌≡◌, ◌<◌, ℕ, List, ◌++◌, [], ◌∷◌, length, arith, ◌+◌, subst}
+use Rattle.row_alloc.proofs.Common.{common_steps, Graph}
 use Rattle.row_alloc.specs.declared.body.OutRow.{OutRow}
 use Rattle.row_alloc.specs.declared.body.BodyCmd.{BodyCmd}
 use Rattle.row_alloc.specs.declared.body.BodyCmd.TheVariants.{Aap}

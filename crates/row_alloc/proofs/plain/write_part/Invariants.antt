@@ -1,4 +1,4 @@
-use Rattle.std.proofs.Common.{◌≡◌, ◌+◌, length}
+use Rattle.row_alloc.proofs.Common.{◌≡◌, ◌+◌, length}
 use Rattle.row_alloc.proofs.Written.{Writes}
 use Rattle.row_alloc.proofs.plain.write_part.Given as goal
 

@@ -1,5 +1,4 @@
-use Rattle.std.proofs.Common.{◌≡◌, ◌≤◌, map, drop}
-use Rattle.scan_model.specs.Checks.{checked_from}
+use Rattle.scan_query.proofs.Common.{◌≡◌, ◌≤◌, map, drop, checked_from}
 use Rattle.scan_query.specs.Queries.{node_of}
 use Rattle.scan_query.proofs.checks.check.Given as goal
 

@@ -1,5 +1,4 @@
-use Rattle.std.proofs.Common.{◌≡◌, map, drop}
-use Rattle.scan_model.specs.Instructions.{count_of}
+use Rattle.scan_query.proofs.Common.{◌≡◌, map, drop, count_of}
 use Rattle.scan_query.specs.Queries.{node_of}
 use Rattle.scan_query.proofs.checks.count_of.Given as goal
 

@@ -1,8 +1,5 @@
-use Rattle.std.proofs.Common.{◌≡◌, ◌∙◌, ◌++◌, ◌∷◌, [], ◌+◌, ◌≤◌, ap, sym, subst, arith, take}
-use Rattle.std.proofs.Common.{not, length, List, ℕ, get_or}
-use Rattle.std.specs.Prelude.{filter}
-use Rattle.object_alloc.specs.Listed.{has_name}
-use Rattle.scan_model.specs.Names.{free_among}
+use Rattle.scan_query.proofs.Common.{◌≡◌, ◌∙◌, ◌++◌, ◌∷◌, [], ◌+◌, ◌≤◌, ap, sym, subst, arith, take}
+use Rattle.scan_query.proofs.Common.{not, length, List, ℕ, get_or, filter, has_name, free_among}
 use Rattle.scan_model.proofs.FreeNames.{many}
 use Rattle.scan_query.proofs.Naming.{free_more, take_all_of, named_at}
 use Rattle.scan_query.proofs.names.free_names.Goals as goal

@@ -1,5 +1,4 @@
-use Rattle.std.proofs.Common.{◌≡◌, take}
-use Rattle.scan_model.specs.Names.{free_among}
+use Rattle.scan_query.proofs.Common.{◌≡◌, take, free_among}
 use Rattle.scan_query.proofs.names.free_names.Given as goal
 
 -- the free names among those before

@@ -1,5 +1,4 @@
-use Rattle.std.proofs.Common.{◌∙◌, ap, sym}
-use Rattle.std.specs.Prelude.{is_none}
+use Rattle.scan_query.proofs.Common.{◌∙◌, ap, sym, is_none}
 use Rattle.scan_query.proofs.Naming.{free_is}
 use Rattle.scan_query.proofs.names.is_free.Goals as goal
 

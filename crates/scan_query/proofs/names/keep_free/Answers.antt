@@ -1,5 +1,5 @@
-use Rattle.std.proofs.Common.{◌∙◌, ◌++◌, ◌∷◌, [], ap, sym, arith, append-nil, take, length}
-use Rattle.std.proofs.Common.{cond}
+use Rattle.scan_query.proofs.Common.{◌∙◌, ◌++◌, ◌∷◌, [], ap, sym, arith, append-nil, take, length}
+use Rattle.scan_query.proofs.Common.{cond}
 use Rattle.scan_query.proofs.Naming.{take_few, take_full}
 use Rattle.scan_query.proofs.names.keep_free.Goals.{else-is_free-via-then-is_free+else-len-lt-NAMES}
 use Rattle.scan_query.proofs.names.keep_free.Goals.{else-is_free-via-else-is_free}

@@ -1,4 +1,4 @@
-use Rattle.std.proofs.Common.{◌∙◌, ap, arith}
+use Rattle.scan_query.proofs.Common.{◌∙◌, ap, arith}
 use Rattle.text_lex.specs.Spelled.{fits_name}
 use Rattle.scan_model.proofs.FreeNames.{scan_fits}
 use Rattle.scan_query.proofs.names.scan_name.Goals as goal

@@ -1,4 +1,4 @@
-use Rattle.std.proofs.Common.{◌≡◌, map, take, length}
+use Rattle.scan_query.proofs.Common.{◌≡◌, map, take, length}
 use Rattle.scan_query.specs.Queries.{node_of, width_in}
 use Rattle.scan_query.proofs.nodes.widths_of.Given as goal
 

@@ -1,4 +1,4 @@
-use Rattle.std.proofs.Common.{arith}
+use Rattle.scan_query.proofs.Common.{arith}
 use Rattle.scan_query.proofs.Counting.{words_counted}
 use Rattle.scan_query.proofs.ones.ones_below.Goals as goal
 

@@ -1,6 +1,4 @@
-use Rattle.std.proofs.Common.{◌≡◌, ◌*◌, ◌≤◌, take}
-use Rattle.std.specs.Prelude.{count_by}
-use Rattle.bit_rows.specs.Bits.{bits_of_words}
+use Rattle.scan_query.proofs.Common.{◌≡◌, ◌*◌, ◌≤◌, take, count_by, bits_of_words}
 use Rattle.scan_query.proofs.ones.ones_below.Given as goal
 
 abbrev pub invariant-words : goal.invariant-words

@@ -1,4 +1,4 @@
-use Rattle.std.proofs.Common.{arith}
+use Rattle.scan_query.proofs.Common.{arith}
 use Rattle.scan_query.proofs.Counting.{ones_whole, ones_low}
 use Rattle.scan_query.proofs.ones.ones_in.Goals as goal
 

@@ -1,8 +1,6 @@
-use Rattle.std.proofs.Common.{◌≡◌, ◌∙◌, ◌<◌, ℕ, ap, arith, length, refl}
-use Rattle.dram_model.specs.declared.geometry.Geometry.{Geometry}
-use Rattle.dram_model.specs.Elements.{column_count}
-use Rattle.dram_model.proofs.EventLaws.{Kept-more, DidRead-more}
-use Rattle.std.proofs.lemmas.Result.{err_from_is_err_and}
+use Rattle.scan_query.proofs.Common.{◌≡◌, ◌∙◌, ◌<◌, ℕ, ap, arith, length, refl, Geometry}
+use Rattle.scan_query.proofs.Common.{column_count, Kept-more, err_from_is_err_and}
+use Rattle.dram_model.proofs.EventLaws.{DidRead-more}
 use Rattle.scan_query.proofs.Counting.{banks_counted, length_put_back}
 use Rattle.scan_query.proofs.Failing.{read_failed}
 use Rattle.scan_query.proofs.ones.ones_of.Goals as goal

@@ -1,7 +1,7 @@
-use Rattle.std.proofs.Common.{◌≡◌, ◌*◌, ◌≤◌, length, take, map}
-use Rattle.std.specs.Prelude.{count_by, ◌==◌}
-use Rattle.dram_model.specs.View.{DidRead, Kept}
-use Rattle.dram_model.specs.Elements.{number, below}
+use Rattle.scan_query.proofs.Common.{◌≡◌, ◌*◌, ◌≤◌, length, take, map, count_by, DidRead, number}
+use Rattle.scan_query.proofs.Common.{below}
+use Rattle.std.specs.Prelude.{◌==◌}
+use Rattle.dram_model.specs.View.{Kept}
 use Rattle.scan_query.proofs.ones.ones_of.Given as goal
 
 abbrev pub invariant-banks : goal.invariant-banks

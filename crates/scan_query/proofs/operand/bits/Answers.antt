@@ -1,4 +1,4 @@
-use Rattle.std.proofs.Common.{[], ◌∷◌, ◌∙◌, ap}
+use Rattle.scan_query.proofs.Common.{[], ◌∷◌, ◌∙◌, ap}
 use Rattle.scan_model.specs.Texts as model
 use Rattle.scan_query.proofs.Taking.{exits, fails_along}
 use Rattle.scan_query.proofs.Spelling.{part_along}

@@ -1,4 +1,4 @@
-use Rattle.std.proofs.Common.{[], ◌∷◌}
+use Rattle.scan_query.proofs.Common.{[], ◌∷◌}
 use Rattle.scan_model.specs.Texts as model
 use Rattle.scan_query.specs.Reading.{seen, word_view}
 use Rattle.scan_query.proofs.Taking.{breaks, exits, token_goes}

@@ -1,9 +1,8 @@
-use Rattle.std.proofs.Common.{[], ◌∷◌, ◌∙◌, ap, cond}
+use Rattle.scan_query.proofs.Common.{[], ◌∷◌, ◌∙◌, ap, cond, refl}
 use Rattle.scan_model.specs.Texts as model
 use Rattle.scan_query.specs.Reading.{breach, left, seen}
 use Rattle.scan_query.proofs.Taking.{exits, fails_along}
 use Rattle.scan_query.proofs.Spelling.{part_along, whole_part}
-use Rattle.std.proofs.Common.{refl}
 use Rattle.scan_query.proofs.operand.part.Goals as goal
 
 pub returns-in_err-opens-clause-moves : goal.returns-in_err-opens-clause-moves

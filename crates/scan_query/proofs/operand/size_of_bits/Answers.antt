@@ -1,4 +1,4 @@
-use Rattle.std.proofs.Common.{[], ◌∷◌, ◌∙◌, ap, cond}
+use Rattle.scan_query.proofs.Common.{[], ◌∷◌, ◌∙◌, ap, cond}
 use Rattle.scan_model.specs.Texts as model
 use Rattle.scan_query.specs.Reading.{breach, left, seen}
 use Rattle.scan_query.proofs.Taking.{exits, fails_along}

@@ -1,4 +1,4 @@
-use Rattle.std.proofs.Common.{◌+◌, ◌*◌, length}
+use Rattle.scan_query.proofs.Common.{◌+◌, ◌*◌, length}
 use Rattle.scan_query.specs.Reading.{left, seen}
 use Rattle.scan_query.proofs.parse.+queries.Given as goal
 

@@ -1,4 +1,4 @@
-use Rattle.std.proofs.Common.{[], ◌∷◌, sym, ap, map}
+use Rattle.scan_query.proofs.Common.{[], ◌∷◌, sym, ap, map}
 use Rattle.scan_model.specs.Texts as model
 use Rattle.scan_query.specs.Queries.{node_of}
 use Rattle.scan_query.specs.Reading.{breach, seen}

@@ -1,6 +1,5 @@
-use Rattle.std.proofs.Common.{[], ◌∷◌, sym, ◌∙◌, ap}
+use Rattle.scan_query.proofs.Common.{[], ◌∷◌, sym, ◌∙◌, ap, option_map}
 use Rattle.scan_model.specs.Texts as model
-use Rattle.std.specs.Option.{option_map}
 use Rattle.scan_query.specs.Reading.{after_lead, lead_of, seen}
 use Rattle.scan_query.proofs.Taking.{exits, start_full, start_goes, start_wrong}
 use Rattle.scan_query.proofs.reading.begins.Goals as goal

@@ -1,5 +1,4 @@
-use Rattle.std.proofs.Common.{Ok, subst}
-use Rattle.text_lex.specs.Lexical.{Takes, lexeme_of}
+use Rattle.scan_query.proofs.Common.{Ok, subst, Takes, lexeme_of}
 use Rattle.scan_query.specs.Reading.{seen}
 use Rattle.scan_query.proofs.Ending.{at_end, spare_stranger, spare_token}
 use Rattle.scan_query.proofs.reading.ends.Goals as goal

@@ -1,5 +1,4 @@
-use Rattle.std.proofs.Common.{Ok, subst, refl}
-use Rattle.text_lex.specs.Lexical.{Takes}
+use Rattle.scan_query.proofs.Common.{Ok, subst, refl, Takes}
 use Rattle.scan_query.specs.Reading.{seen}
 use Rattle.scan_query.proofs.Taking.{ends, strange, took_one}
 use Rattle.scan_query.proofs.reading.next.Goals as goal

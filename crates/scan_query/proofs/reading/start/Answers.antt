@@ -1,5 +1,4 @@
-use Rattle.std.proofs.Common.{◌∙◌, ap}
-use Rattle.text_lex.specs.Lexical.{items_of}
+use Rattle.scan_query.proofs.Common.{◌∙◌, ap, items_of}
 use Rattle.scan_query.specs.Digits.{are_digits}
 use Rattle.scan_query.proofs.Taking.{all_digits}
 use Rattle.scan_query.proofs.reading.start.Goals as goal

@@ -1,4 +1,4 @@
-use Rattle.std.proofs.Common.{[], ◌∷◌, sym}
+use Rattle.scan_query.proofs.Common.{[], ◌∷◌, sym}
 use Rattle.scan_model.specs.declared.QueryKind.TheVariants as kind
 use Rattle.scan_query.specs.Reading.{after_mark, seen, wanted_by, word_view}
 use Rattle.scan_query.proofs.Taking.{breaks, exits, mark_right, mark_wrong, token_goes}

@@ -1,16 +1,8 @@
-use Rattle.std.proofs.Common.{◌∙◌, ap, sym, subst, take, drop, map, length, Ok, List, Some}
-use Rattle.std.proofs.Common.{arith}
-use Rattle.std.proofs.Common.{◌<◌, ◌+◌, ℕ, None, get_or}
-use Rattle.std.specs.List.{AllByRecursion}
-use Rattle.std.proofs.lemmas.Result.{err_from_is_err_and}
-use Rattle.object_alloc.specs.Listed.{Named}
-use Rattle.bbop_isa.specs.Forms.{Instruction}
-use Rattle.machine_model.specs.Agrees.{IsPlain}
-use Rattle.sim_machine.specs.Machine.{table_in, geometry_of, operations_by}
-use Rattle.scan_model.specs.Queries.{Node}
-use Rattle.scan_model.specs.Checks.{refused_from}
-use Rattle.scan_model.specs.Instructions.{count_of, script_from, node_instructions}
-use Rattle.scan_model.specs.Names.{free_name}
+use Rattle.scan_query.proofs.Common.{◌∙◌, ap, sym, subst, take, drop, map, length, Ok, List, Some}
+use Rattle.scan_query.proofs.Common.{arith, ◌<◌, ◌+◌, ℕ, None, get_or, AllByRecursion}
+use Rattle.scan_query.proofs.Common.{err_from_is_err_and, Named, Instruction, IsPlain, table_in}
+use Rattle.scan_query.proofs.Common.{geometry_of, operations_by, Node, refused_from, count_of}
+use Rattle.scan_query.proofs.Common.{script_from, node_instructions, free_name}
 use Rattle.scan_query.specs.Queries.{node_of, names_in, sources_fit, width_in}
 use Rattle.scan_query.specs.Queries.{instructions_for}
 use Rattle.scan_query.specs.Running.{FailedAmong, Ran, Runs}

@@ -1,10 +1,6 @@
-use Rattle.std.proofs.Common.{◌≡◌, map, take, drop}
-use Rattle.std.specs.List.{AllByRecursion}
-use Rattle.machine_model.specs.Agrees.{IsPlain}
-use Rattle.sim_machine.specs.Machine.{geometry_of, operations_by, table_in}
-use Rattle.scan_model.specs.Checks.{refused_from}
-use Rattle.scan_model.specs.Instructions.{count_of, script_from}
-use Rattle.scan_model.specs.Names.{free_name}
+use Rattle.scan_query.proofs.Common.{◌≡◌, map, take, drop, AllByRecursion, IsPlain, geometry_of}
+use Rattle.scan_query.proofs.Common.{operations_by, table_in, refused_from, count_of, script_from}
+use Rattle.scan_query.proofs.Common.{free_name}
 use Rattle.scan_query.specs.Queries.{node_of, sources_fit}
 use Rattle.scan_query.specs.Running.{Ran, refused_node}
 use Rattle.scan_query.proofs.run.run_nodes.Given as goal

@@ -1,22 +1,9 @@
-use Rattle.std.proofs.Common.{◌≡◌, ◌∙◌, sym, ap, subst, arith, map, length, List}
-use Rattle.std.proofs.lemmas.List.{length-map}
-use Rattle.std.proofs.Common.{None, Some, Ok}
-use Rattle.std.proofs.Common.{◌-◌}
-use Rattle.std.specs.List.{AllByRecursion}
-use Rattle.dram_model.specs.declared.dram.Counters.{Counters}
-use Rattle.dram_model.specs.Elements.{segments_of}
-use Rattle.dram_model.specs.View.{DidRead}
-use Rattle.object_alloc.specs.Listed.{Named}
-use Rattle.uprog_code.specs.declared.walker.Counts.{Counts}
-use Rattle.machine_model.specs.Agrees.{IsPlain}
-use Rattle.scan_model.specs.Instructions.{count_of, scan_script}
-use Rattle.sim_machine.specs.Machine.{geometry_of, operations_by, table_in}
-use Rattle.scan_model.specs.Answers.{Refused}
-use Rattle.scan_model.specs.Checks.{checked}
-use Rattle.scan_model.specs.Names.{free_name}
-use Rattle.scan_model.specs.Queries.{Node, size}
+use Rattle.scan_query.proofs.Common.{◌≡◌, ◌∙◌, sym, ap, subst, arith, map, length, List, length-map}
+use Rattle.scan_query.proofs.Common.{None, Some, Ok, ◌-◌, AllByRecursion, Counters, segments_of}
+use Rattle.scan_query.proofs.Common.{DidRead, Named, Counts, IsPlain, count_of, scan_script}
+use Rattle.scan_query.proofs.Common.{geometry_of, operations_by, table_in, Refused, checked}
+use Rattle.scan_query.proofs.Common.{free_name, Node, size, err_from_is_err_and}
 use Rattle.scan_query.specs.Queries.{node_of, nodes_in, sources_fit}
-use Rattle.std.proofs.lemmas.Result.{err_from_is_err_and}
 use Rattle.scan_query.specs.Running.{FailedAmong, NodesRan, NodesRun, StoppedAt, refused_node}
 use Rattle.scan_query.proofs.Failing.{failed_after, failed_in}
 use Rattle.scan_query.proofs.Answering.{all_done, answer_checked, answer_done, answer_refused}

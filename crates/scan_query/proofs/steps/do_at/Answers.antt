@@ -1,6 +1,4 @@
-use Rattle.std.proofs.Common.{◌∙◌, ap, sym, subst, List}
-use Rattle.std.specs.Option.{option_map}
-use Rattle.bbop_isa.specs.Forms.{view_of, Instruction}
+use Rattle.scan_query.proofs.Common.{◌∙◌, ap, sym, subst, List, option_map, view_of, Instruction}
 use Rattle.scan_query.specs.Queries.{instructions_for, names_in, node_of}
 use Rattle.scan_query.specs.Running.{Runs, Ran}
 use Rattle.scan_query.proofs.Running.{at_front, at_end, ran_nothing}

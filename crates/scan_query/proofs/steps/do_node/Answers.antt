@@ -1,5 +1,4 @@
-use Rattle.std.proofs.Common.{◌∙◌, subst, take, drop, Ok}
-use Rattle.std.proofs.lemmas.Result.{err_from_is_err_and}
+use Rattle.scan_query.proofs.Common.{◌∙◌, subst, take, drop, Ok, err_from_is_err_and}
 use Rattle.scan_query.specs.Queries.{instructions_for, names_in, node_of}
 use Rattle.scan_query.specs.Running.{Runs}
 use Rattle.scan_query.proofs.Running.{refused_at, took_one}

@@ -1,4 +1,4 @@
-use Rattle.std.proofs.Common.{◌≡◌, take}
+use Rattle.scan_query.proofs.Common.{◌≡◌, take}
 use Rattle.scan_query.specs.Queries.{instructions_for, names_in, node_of}
 use Rattle.scan_query.specs.Running.{Ran}
 use Rattle.scan_query.proofs.steps.do_node.Given as goal

@@ -1,5 +1,4 @@
-use Rattle.std.proofs.Common.{refl, sym, ◌∙◌}
-use Rattle.bbop_isa.specs.Forms.{view_of}
+use Rattle.scan_query.proofs.Common.{refl, sym, ◌∙◌, view_of}
 use Rattle.scan_query.proofs.Failing.{failed_one}
 use Rattle.scan_query.proofs.Stopping.{runs_refused}
 use Rattle.scan_query.proofs.steps.do_one.Goals as goal

@@ -1,5 +1,4 @@
-use Rattle.std.proofs.Common.{◌≡◌, take, map}
-use Rattle.machine_model.specs.Refusals.{rows_of}
+use Rattle.sim_machine.proofs.Common.{◌≡◌, take, map, rows_of}
 use Rattle.sim_machine.proofs.bbop.bases.Given as goal
 
 abbrev pub invariant-loop-src : goal.invariant-loop-src

@@ -1,6 +1,4 @@
-use Rattle.std.proofs.Common.{◌≡◌, ◌∷◌, length, subst, sym}
-use Rattle.uprog_code.specs.Shape.{Shape}
-use Rattle.machine_model.specs.Refusals.{srcs_in}
+use Rattle.sim_machine.proofs.Common.{◌≡◌, ◌∷◌, length, subst, sym, Shape, srcs_in}
 use Rattle.sim_machine.proofs.bbop.bind.Goals as goal
 
 pub bind_head-requires : goal.bind_head-requires

@@ -1,5 +1,4 @@
-use Rattle.uprog_bin.specs.Opened.{program_of}
-use Rattle.machine_model.specs.Routines.{routine_of}
+use Rattle.sim_machine.proofs.Common.{program_of, routine_of}
 use Rattle.sim_machine.proofs.Granting.{few_sources, object_fits, bound_is, can_run, job_is}
 use Rattle.sim_machine.proofs.bbop.job_for.Goals as goal
 

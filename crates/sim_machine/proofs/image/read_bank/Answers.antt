@@ -1,9 +1,7 @@
-use Rattle.std.proofs.Common.{[], ◌+◌, ◌*◌, arith, vec_len, ap, ◌∙◌}
-use Rattle.dram_model.specs.Chip.{Banks, row_in}
-use Rattle.dram_model.specs.View.{FailedIn}
-use Rattle.dram_model.proofs.EventLaws.{Grew-more, Kept-more, DidRead-more}
+use Rattle.sim_machine.proofs.Common.{[], ◌+◌, ◌*◌, arith, vec_len, ap, ◌∙◌, Banks, FailedIn}
+use Rattle.sim_machine.proofs.Common.{Grew-more, Kept-more, DidRead-more, on_err}
+use Rattle.dram_model.specs.Chip.{row_in}
 use Rattle.object_alloc.specs.Bytes.{bytes_of_bits}
-use Rattle.object_steps.proofs.Filled.{on_err}
 use Rattle.sim_machine.proofs.Rows.{next_bytes, more_reads}
 use Rattle.sim_machine.proofs.image.read_bank.Goals as goal
 

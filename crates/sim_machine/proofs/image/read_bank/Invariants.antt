@@ -1,5 +1,5 @@
-use Rattle.std.proofs.Common.{◌≡◌, ◌+◌, ◌*◌, ◌≤◌, ◌++◌, length, vec_len, vec_capacity}
-use Rattle.dram_model.specs.View.{Kept, DidRead}
+use Rattle.sim_machine.proofs.Common.{◌≡◌, ◌+◌, ◌*◌, ◌≤◌, ◌++◌, length, vec_len, vec_capacity, Kept}
+use Rattle.sim_machine.proofs.Common.{DidRead}
 use Rattle.sim_machine.specs.Image.{bank_bytes}
 use Rattle.sim_machine.proofs.image.read_bank.Given as goal
 

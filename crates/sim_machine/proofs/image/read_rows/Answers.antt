@@ -1,11 +1,7 @@
-use Rattle.std.proofs.Common.{[], ◌+◌, ◌*◌, arith, vec_len, ap, ◌∙◌, subst}
-use Rattle.faults.specs.Counts.{Rose}
-use Rattle.dram_model.specs.Chip.{Banks}
-use Rattle.transpose_unit.specs.Stopped.{StoppedWithin}
-use Rattle.dram_model.specs.View.{DidRead}
+use Rattle.sim_machine.proofs.Common.{[], ◌+◌, ◌*◌, arith, vec_len, ap, ◌∙◌, subst, Rose, Banks}
+use Rattle.sim_machine.proofs.Common.{StoppedWithin, DidRead, Grew-more, Kept-more, DidRead-more}
+use Rattle.sim_machine.proofs.Common.{on_err}
 use Rattle.transpose_unit.proofs.Stopping.{stopped_first}
-use Rattle.dram_model.proofs.EventLaws.{Grew-more, Kept-more, DidRead-more}
-use Rattle.object_steps.proofs.Filled.{on_err}
 use Rattle.sim_machine.specs.Image.{bank_bytes}
 use Rattle.sim_machine.proofs.Rows.{next_bytes, more_reads, one_times_more}
 use Rattle.sim_machine.proofs.image.read_rows.Goals as goal

@@ -1,7 +1,5 @@
-use Rattle.std.proofs.Common.{◌≡◌, ◌+◌, ◌*◌, ◌≤◌, ◌++◌, length, vec_len, vec_capacity}
-use Rattle.std.specs.Prelude.{flat_map}
-use Rattle.std.specs.List.{range_with_len}
-use Rattle.dram_model.specs.View.{Kept, DidRead}
+use Rattle.sim_machine.proofs.Common.{◌≡◌, ◌+◌, ◌*◌, ◌≤◌, ◌++◌, length, vec_len, vec_capacity}
+use Rattle.sim_machine.proofs.Common.{flat_map, range_with_len, Kept, DidRead}
 use Rattle.sim_machine.specs.Image.{bank_bytes}
 use Rattle.sim_machine.proofs.image.read_rows.Given as goal
 

@@ -1,4 +1,4 @@
-use Rattle.std.proofs.Common.{length, arith}
+use Rattle.sim_machine.proofs.Common.{length, arith}
 use Rattle.sim_machine.proofs.Rows.{row_fits}
 use Rattle.sim_machine.proofs.opening.row_bytes.Goals as goal
 

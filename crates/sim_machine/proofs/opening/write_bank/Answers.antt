@@ -1,12 +1,6 @@
-use Rattle.std.proofs.Common.{arith, ◌∙◌, ap, refl}
-use Rattle.std.proofs.lemmas.Grind.{common_steps}
-use Rattle.dram_model.proofs.EventLaws.{Kept-more}
+use Rattle.sim_machine.proofs.Common.{arith, ◌∙◌, ap, refl, common_steps, Kept-more, Banks, Write}
+use Rattle.sim_machine.proofs.Common.{FailedIn, rows_in, on_err}
 use Rattle.transpose_unit.proofs.Stopping.{others_stay}
-use Rattle.dram_model.specs.Chip.{Banks}
-use Rattle.dram_model.specs.Chip.Event.{Write}
-use Rattle.dram_model.specs.View.{FailedIn}
-use Rattle.object_alloc.specs.Spelling.{rows_in}
-use Rattle.object_steps.proofs.Filled.{on_err}
 use Rattle.sim_machine.proofs.Rows.{next_row}
 use Rattle.sim_machine.proofs.opening.write_bank.Goals as goal
 

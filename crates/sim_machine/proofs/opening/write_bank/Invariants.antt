@@ -1,8 +1,5 @@
-use Rattle.std.proofs.Common.{◌≡◌, ◌+◌, length, map}
-use Rattle.std.specs.List.{range_with_len}
-use Rattle.dram_model.specs.Chip.Event.{Write}
-use Rattle.object_alloc.specs.Spelling.{rows_in}
-use Rattle.dram_model.specs.View.{Kept, Did}
+use Rattle.sim_machine.proofs.Common.{◌≡◌, ◌+◌, length, map, range_with_len, Write, rows_in, Kept}
+use Rattle.sim_machine.proofs.Common.{Did}
 use Rattle.sim_machine.proofs.opening.write_bank.Given as goal
 
 -- the rows so far were written

@@ -1,10 +1,6 @@
-use Rattle.std.proofs.Common.{arith, ◌∙◌, ◌<◌}
-use Rattle.std.proofs.lemmas.Grind.{common_steps}
-use Rattle.dram_model.proofs.EventLaws.{Kept-more}
-use Rattle.faults.specs.Counts.{Rose}
+use Rattle.sim_machine.proofs.Common.{arith, ◌∙◌, ◌<◌, common_steps, Kept-more, Rose, StoppedWithin}
+use Rattle.sim_machine.proofs.Common.{on_err}
 use Rattle.transpose_unit.proofs.Stopping.{stopped_turn}
-use Rattle.transpose_unit.specs.Stopped.{StoppedWithin}
-use Rattle.object_steps.proofs.Filled.{on_err}
 use Rattle.sim_machine.specs.Opening.{all_writes, bank_writes}
 use Rattle.sim_machine.proofs.Rows.{next_bank}
 use Rattle.sim_machine.proofs.opening.write_rows.Goals as goal

@@ -1,7 +1,4 @@
-use Rattle.std.proofs.Common.{◌≡◌, ◌*◌, ◌≤◌, length}
-use Rattle.std.specs.Prelude.{flat_map}
-use Rattle.std.specs.List.{range_with_len}
-use Rattle.dram_model.specs.View.{Kept, Did}
+use Rattle.sim_machine.proofs.Common.{◌≡◌, ◌*◌, ◌≤◌, length, flat_map, range_with_len, Kept, Did}
 use Rattle.sim_machine.specs.Opening.{bank_writes}
 use Rattle.sim_machine.proofs.opening.write_rows.Given as goal
 

@@ -1,9 +1,6 @@
-use Rattle.std.proofs.Common.{rules, ◌≡◌, ◌==◌, ◌∷◌, ◌++◌, true, length, sym, ◌∙◌, None}
-use Rattle.uprog_code.specs.Shape.{results}
-use Rattle.uprog_code.specs.Shape.{Shape}
-use Rattle.uprog_bin.specs.Opened.{program_of}
-use Rattle.machine_model.specs.Routines.{routine_of}
-use Rattle.machine_model.specs.Refusals.{first, operand_conditions}
+use Rattle.sim_machine.proofs.Common.{◌≡◌, ◌==◌, ◌∷◌, ◌++◌, true, length, sym, ◌∙◌, None, results}
+use Rattle.sim_machine.proofs.Common.{Shape, program_of, routine_of, first, operand_conditions}
+use Rattle.std.proofs.Common.{rules}
 use Rattle.sim_machine.proofs.Found.{refused_last}
 use Rattle.sim_machine.proofs.refusal.allow.Goals as goal
 

@@ -1,6 +1,5 @@
-use Rattle.std.proofs.Common.{◌≡◌, false, sym, ◌∙◌, ◌++◌}
-use Rattle.std.specs.Option.{option_to_list}
-use Rattle.machine_model.specs.Refusals.{rows_of, is_misfit}
+use Rattle.sim_machine.proofs.Common.{◌≡◌, false, sym, ◌∙◌, ◌++◌, option_to_list, rows_of}
+use Rattle.sim_machine.proofs.Common.{is_misfit}
 use Rattle.sim_machine.proofs.Found.{misfit-none}
 use Rattle.sim_machine.proofs.refusal.bad_width.Goals as goal
 

@@ -1,5 +1,4 @@
-use Rattle.std.proofs.Common.{◌≡◌, ◌++◌, take}
-use Rattle.std.specs.Option.{option_to_list}
+use Rattle.sim_machine.proofs.Common.{◌≡◌, ◌++◌, take, option_to_list}
 use Rattle.sim_machine.proofs.refusal.other_kinds.Given as goal
 
 abbrev pub invariant-loop-kind : goal.invariant-loop-kind

@@ -1,4 +1,4 @@
-use Rattle.std.proofs.Common.{refl, arith}
+use Rattle.sim_machine.proofs.Common.{refl, arith}
 use Rattle.sim_machine.proofs.Lines.{on_err}
 use Rattle.sim_machine.proofs.Lines.{known_more, known_part}
 use Rattle.sim_machine.proofs.report.put_lines.Goals as goal

@@ -1,5 +1,4 @@
-use Rattle.std.proofs.Common.{◌≡◌, ◌+◌, ◌≤◌, ◌++◌, take}
-use Rattle.host_edge.specs.Views.{Known}
+use Rattle.sim_machine.proofs.Common.{◌≡◌, ◌+◌, ◌≤◌, ◌++◌, take, Known}
 use Rattle.sim_machine.proofs.Lines.{reply_lines}
 use Rattle.sim_machine.proofs.report.put_lines.Given as goal
 

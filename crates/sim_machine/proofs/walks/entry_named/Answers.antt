@@ -1,5 +1,4 @@
-use Rattle.std.specs.Str.{bytes_eq}
-use Rattle.uprog_bin.specs.Opened.{program_of}
+use Rattle.sim_machine.proofs.Common.{bytes_eq, program_of}
 use Rattle.sim_machine.proofs.Entries.{found_there, none_there}
 use Rattle.sim_machine.proofs.walks.entry_named.Goals as goal
 

@@ -1,13 +1,9 @@
-use Rattle.std.proofs.Common.{◌∙◌, List, ap, map, subst, sym}
-use Rattle.std.specs.List.{AllByRecursion}
+use Rattle.sim_machine.proofs.Common.{◌∙◌, List, ap, map, subst, sym, AllByRecursion, CanRun}
+use Rattle.sim_machine.proofs.Common.{wave_job, view_of, routines_in, jobs_of}
 use Rattle.std.proofs.lemmas.List.Elements.{All-from_recursion}
 use Rattle.uprog_bin.specs.Opened.{EntryBytes}
 use Rattle.uprog_ctl.specs.declared.waves.Job.{Job}
 use Rattle.uprog_ctl.specs.Orders.{turn_of}
-use Rattle.uprog_ctl.specs.Waves.{CanRun, wave_job}
-use Rattle.bbop_isa.specs.Forms.{view_of}
-use Rattle.machine_model.specs.Routines.{routines_in}
-use Rattle.machine_model.specs.Pieces.{jobs_of}
 use Rattle.sim_machine.specs.Granted.{job_bound}
 use Rattle.sim_machine.proofs.Lines.{on_err}
 use Rattle.sim_machine.proofs.Waving.{can_run_there, wave_did, wave_stopped, wave_turn}

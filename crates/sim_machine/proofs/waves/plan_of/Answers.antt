@@ -1,7 +1,4 @@
-use Rattle.std.proofs.Common.{◌≡◌, true, arith}
-use Rattle.bbop_isa.specs.Forms.{view_of}
-use Rattle.machine_model.specs.Agrees.{IsPlain}
-use Rattle.machine_model.specs.Script.{is_bbop}
+use Rattle.sim_machine.proofs.Common.{◌≡◌, true, arith, view_of, IsPlain, is_bbop}
 use Rattle.sim_machine.proofs.Waving.{all_at}
 use Rattle.sim_machine.proofs.waves.plan_of.Goals as goal
 

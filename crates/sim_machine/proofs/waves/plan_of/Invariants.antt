@@ -1,10 +1,5 @@
-use Rattle.std.proofs.Common.{◌≡◌, ◌≤◌, length, map, take}
-use Rattle.std.specs.List.{AllByRecursion}
-use Rattle.uprog_ctl.specs.Waves.{CanRun, wave_job}
-use Rattle.bbop_isa.specs.Forms.{view_of}
-use Rattle.machine_model.specs.Routines.{routines_in}
-use Rattle.machine_model.specs.Pieces.{jobs_of}
-use Rattle.machine_model.specs.Steps.{reply_to}
+use Rattle.sim_machine.proofs.Common.{◌≡◌, ◌≤◌, length, map, take, AllByRecursion, CanRun, wave_job}
+use Rattle.sim_machine.proofs.Common.{view_of, routines_in, jobs_of, reply_to}
 use Rattle.sim_machine.specs.Granted.{job_bound}
 use Rattle.sim_machine.proofs.waves.plan_of.Given as goal
 

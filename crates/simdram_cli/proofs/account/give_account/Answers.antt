@@ -1,7 +1,4 @@
-use Rattle.std.proofs.Common.{sym, ◌∙◌}
-use Rattle.std.proofs.lemmas.Result.{err_from_is_err_and}
-use Rattle.cli_model.proofs.Doing.{puts, unput}
-use Rattle.cli_model.proofs.Running.{runs_answered}
+use Rattle.simdram_cli.proofs.Common.{sym, ◌∙◌, err_from_is_err_and, puts, unput, runs_answered}
 use Rattle.simdram_cli.proofs.Stores.{at_ok, at_err}
 use Rattle.simdram_cli.proofs.account.give_account.Goals as goal
 

@@ -1,11 +1,8 @@
-use Rattle.std.proofs.lemmas.Result.{err_from_is_err_and}
-use Rattle.op_text.specs.Language.{operations}
-use Rattle.cli_model.proofs.Doing.{takes, unread, wants}
-use Rattle.cli_model.proofs.Running.{runs_made}
+use Rattle.simdram_cli.proofs.Common.{err_from_is_err_and, operations, takes, unread, wants}
+use Rattle.simdram_cli.proofs.Common.{runs_made, canonical_text}
 use Rattle.simdram_cli.specs.Inputs.{ops_in}
 use Rattle.simdram_cli.specs.declared.words.TheConstants.{OPS_MAX}
 use Rattle.simdram_cli.specs.Accounts.{ops_plan}
-use Rattle.op_print.specs.Canonical.{canonical_text}
 use Rattle.simdram_cli.proofs.Accounting.{stops_before}
 use Rattle.simdram_cli.proofs.OpsPlans.{ops_read}
 use Rattle.simdram_cli.proofs.account.text_of_ops.Goals as goal

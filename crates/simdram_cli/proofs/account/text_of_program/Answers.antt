@@ -1,7 +1,5 @@
-use Rattle.std.proofs.Common.{◌∙◌, ap}
-use Rattle.std.proofs.lemmas.Result.{err_from_is_err_and}
-use Rattle.cli_model.proofs.Doing.{parsed, refused, takes, unloaded, wants}
-use Rattle.cli_model.proofs.Running.{runs_made}
+use Rattle.simdram_cli.proofs.Common.{◌∙◌, ap, err_from_is_err_and, parsed, refused, takes}
+use Rattle.simdram_cli.proofs.Common.{unloaded, wants, runs_made}
 use Rattle.simdram_cli.specs.declared.words.TheConstants.{PROG_MAX}
 use Rattle.simdram_cli.specs.Accounts.{program_plan}
 use Rattle.simdram_cli.specs.Programs.{prog_in, prog_refusal, program_or_refusal}

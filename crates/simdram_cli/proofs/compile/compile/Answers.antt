@@ -1,11 +1,8 @@
-use Rattle.std.proofs.Common.{sym, ◌∙◌}
-use Rattle.std.proofs.lemmas.Result.{err_from_is_err_and}
-use Rattle.std.proofs.lemmas.List.{length-map}
-use Rattle.uprog_code.specs.Shape.{microprogram_of, microprograms_of}
+use Rattle.simdram_cli.proofs.Common.{sym, ◌∙◌, err_from_is_err_and, length-map, microprograms_of}
+use Rattle.simdram_cli.proofs.Common.{puts, unput, runs_answered}
+use Rattle.uprog_code.specs.Shape.{microprogram_of}
 use Rattle.simdram_cli.specs.Compile.{compiled_line}
 use Rattle.simdram_cli.proofs.Stores.{at_ok, at_err}
-use Rattle.cli_model.proofs.Doing.{puts, unput}
-use Rattle.cli_model.proofs.Running.{runs_answered}
 use Rattle.simdram_cli.proofs.Compiled.{compiled_stopped, compiled_taken}
 use Rattle.simdram_cli.proofs.compile.compile.Goals as goal
 

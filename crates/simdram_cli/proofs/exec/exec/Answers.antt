@@ -1,8 +1,5 @@
-use Rattle.std.proofs.Common.{sym, ◌∙◌, ap}
-use Rattle.std.proofs.lemmas.Result.{err_from_is_err_and}
-use Rattle.uprog_bin.specs.Opened.{IsProgramFile}
-use Rattle.cli_model.proofs.Doing.{parsed, refused, unloaded}
-use Rattle.cli_model.proofs.Running.{runs_made}
+use Rattle.simdram_cli.proofs.Common.{sym, ◌∙◌, ap, err_from_is_err_and, IsProgramFile, parsed}
+use Rattle.simdram_cli.proofs.Common.{refused, unloaded, runs_made}
 use Rattle.simdram_cli.specs.declared.words.TheConstants.{PROG_MAX}
 use Rattle.simdram_cli.specs.Programs.{prog_in, prog_refusal, program_or_refusal}
 use Rattle.simdram_cli.proofs.Migrating.{prog_is}

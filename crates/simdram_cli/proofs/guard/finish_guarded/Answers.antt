@@ -1,16 +1,8 @@
-use Rattle.std.proofs.Common.{[], ◌∷◌, ◌*◌, inr, refl, sym, ◌∙◌}
-use Rattle.dram_model.specs.View.{with_reads}
-use Rattle.object_alloc.specs.Spelling.{image_bytes}
-use Rattle.machine_model.specs.Opened.{rows_in_banks}
-use Rattle.machine_model.specs.Report.{total_line}
-use Rattle.guard_model.specs.Report.{vote_line}
-use Rattle.tmr_guard.specs.Steps.{machine_in}
-use Rattle.sim_machine.specs.Machine.{geometry_of, table_in}
-use Rattle.cli_model.specs.World.{world}
-use Rattle.cli_model.specs.Steps.{Put}
+use Rattle.simdram_cli.proofs.Common.{[], ◌∷◌, ◌*◌, inr, refl, sym, ◌∙◌, with_reads, image_bytes}
+use Rattle.simdram_cli.proofs.Common.{rows_in_banks, total_line, vote_line, machine_in, geometry_of}
+use Rattle.simdram_cli.proofs.Common.{table_in, world, Put, doing}
 use Rattle.simdram_cli.specs.Stops.{end_of}
 use Rattle.simdram_cli.proofs.Guarding.{not_stored, stored_then}
-use Rattle.cli_model.specs.Waves.{doing}
 use Rattle.simdram_cli.proofs.Sending.{left_by}
 use Rattle.simdram_cli.proofs.Stores.{at_err, at_ok, stored, use_broke, unstored}
 use Rattle.simdram_cli.proofs.guard.finish_guarded.Goals as goal

@@ -1,11 +1,8 @@
-use Rattle.std.proofs.Common.{sym}
-use Rattle.std.proofs.lemmas.Result.{err_from_is_err_and}
-use Rattle.object_alloc.specs.Spelling.{rows_in}
-use Rattle.object_alloc.specs.Exact.{found_in}
+use Rattle.simdram_cli.proofs.Common.{sym, err_from_is_err_and, rows_in, found_in, parsed, unloaded}
+use Rattle.simdram_cli.proofs.Common.{unread}
 use Rattle.simdram_cli.specs.Flips.{guarded_image_of}
 use Rattle.simdram_cli.specs.Inputs.{image_found}
 use Rattle.simdram_cli.specs.declared.words.TheConstants.{IMAGE_MAX}
-use Rattle.cli_model.proofs.Doing.{parsed, unloaded, unread}
 use Rattle.simdram_cli.proofs.Guarding.{image_is, image_not, strange}
 use Rattle.simdram_cli.proofs.Sized.{rows_sized}
 use Rattle.simdram_cli.proofs.guard.guard_image.Goals as goal

@@ -1,5 +1,4 @@
-use Rattle.std.proofs.Common.{arith}
-use Rattle.std.proofs.lemmas.Result.{err_from_is_err_and}
+use Rattle.simdram_cli.proofs.Common.{arith, err_from_is_err_and}
 use Rattle.guard_model.proofs.Texts.{flips_are_right}
 use Rattle.simdram_cli.specs.Flips.{flips_in}
 use Rattle.simdram_cli.specs.declared.words.TheConstants.{FLIPS_MAX}

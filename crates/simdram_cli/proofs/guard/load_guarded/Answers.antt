@@ -1,6 +1,4 @@
-use Rattle.std.proofs.Common.{map, sym}
-use Rattle.std.proofs.lemmas.Result.{err_from_is_err_and}
-use Rattle.bbop_isa.specs.Forms.{view_of}
+use Rattle.simdram_cli.proofs.Common.{map, sym, err_from_is_err_and, view_of}
 use Rattle.simdram_cli.proofs.Guarding.{all_short, guarded_unread, long_refused, short_read}
 use Rattle.simdram_cli.proofs.guard.load_guarded.Goals as goal
 

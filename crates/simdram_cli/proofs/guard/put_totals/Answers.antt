@@ -1,6 +1,4 @@
-use Rattle.std.proofs.Common.{sym, ◌∙◌}
-use Rattle.machine_model.specs.Report.{total_line}
-use Rattle.guard_model.specs.Report.{vote_line}
+use Rattle.simdram_cli.proofs.Common.{sym, ◌∙◌, total_line, vote_line}
 use Rattle.simdram_cli.proofs.Guarding.{puts_done, puts_half}
 use Rattle.simdram_cli.proofs.Stores.{at_err, at_ok}
 use Rattle.simdram_cli.proofs.guard.put_totals.Goals as goal

@@ -1,13 +1,7 @@
-use Rattle.std.proofs.Common.{map, ◌∙◌, ap}
-use Rattle.std.proofs.lemmas.Result.{err_from_is_err_and}
-use Rattle.dram_model.proofs.EventLaws.{Kept-more}
-use Rattle.object_alloc.specs.Exact.{found_in}
-use Rattle.bbop_isa.specs.Forms.{view_of}
+use Rattle.simdram_cli.proofs.Common.{map, ◌∙◌, ap, err_from_is_err_and, Kept-more, found_in}
+use Rattle.simdram_cli.proofs.Common.{view_of, machine_in, geometry_of, table_in, world, Done}
+use Rattle.simdram_cli.proofs.Common.{Stopped}
 use Rattle.guard_job.specs.declared.scripts.Outcome.{Outcome}
-use Rattle.tmr_guard.specs.Steps.{machine_in}
-use Rattle.sim_machine.specs.Machine.{geometry_of, table_in}
-use Rattle.cli_model.specs.World.{world}
-use Rattle.cli_model.specs.Steps.{Done, Stopped}
 use Rattle.simdram_cli.specs.Guard.{guard_job}
 use Rattle.simdram_cli.specs.Inputs.{image_found}
 use Rattle.simdram_cli.specs.Stops.{reason_of}

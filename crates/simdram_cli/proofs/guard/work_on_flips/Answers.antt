@@ -1,13 +1,6 @@
-use Rattle.std.proofs.Common.{map, length, List, subst}
-use Rattle.std.specs.Prelude.{IfOk}
-use Rattle.std.proofs.lemmas.Result.{err_from_is_err_and}
-use Rattle.object_alloc.specs.Exact.{found_in}
-use Rattle.bbop_isa.specs.Forms.{view_of}
-use Rattle.guard_model.specs.declared.Flip.{Flip}
-use Rattle.cli_model.specs.World.{world}
-use Rattle.cli_model.specs.Steps.{Goes}
+use Rattle.simdram_cli.proofs.Common.{map, length, List, subst, IfOk, err_from_is_err_and, found_in}
+use Rattle.simdram_cli.proofs.Common.{view_of, Flip, world, Goes, reads, takes, unread, wants}
 use Rattle.simdram_cli.specs.Stops.{end_of}
-use Rattle.cli_model.proofs.Doing.{reads, takes, unread, wants}
 use Rattle.simdram_cli.specs.declared.words.TheConstants.{FLIPS_MAX}
 use Rattle.simdram_cli.specs.Flips.{flips_in}
 use Rattle.simdram_cli.specs.Guard.{GuardDone, guard_job, work_steps}

@@ -1,6 +1,5 @@
-use Rattle.std.proofs.Common.{sym, ◌∙◌}
-use Rattle.cli_model.proofs.Doing.{stores, takes, unstored as stops_at_store, wants}
-use Rattle.cli_model.proofs.Running.{runs_answered}
+use Rattle.simdram_cli.proofs.Common.{sym, ◌∙◌, stores, takes, wants, runs_answered}
+use Rattle.cli_model.proofs.Doing.{unstored as stops_at_store}
 use Rattle.simdram_cli.specs.Init.{empty_image}
 use Rattle.simdram_cli.proofs.Stores.{stored, unstored, at_ok, at_err}
 use Rattle.simdram_cli.proofs.init.init.Goals as goal

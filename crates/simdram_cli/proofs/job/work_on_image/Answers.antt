@@ -1,12 +1,8 @@
-use Rattle.std.proofs.Common.{arith, map}
-use Rattle.std.proofs.lemmas.Result.{err_from_is_err_and}
-use Rattle.object_alloc.specs.Spelling.{rows_in}
-use Rattle.object_alloc.specs.Exact.{found_in}
-use Rattle.bbop_isa.specs.Forms.{view_of}
+use Rattle.simdram_cli.proofs.Common.{arith, map, err_from_is_err_and, rows_in, found_in, view_of}
+use Rattle.simdram_cli.proofs.Common.{parsed, unloaded}
 use Rattle.simdram_cli.specs.Inputs.{image_found}
 use Rattle.simdram_cli.proofs.Running.{image_is}
 use Rattle.simdram_cli.proofs.Sized.{rows_sized}
-use Rattle.cli_model.proofs.Doing.{parsed, unloaded}
 use Rattle.simdram_cli.specs.declared.words.TheConstants.{IMAGE_MAX}
 use Rattle.simdram_cli.specs.Inputs.{image_of}
 use Rattle.simdram_cli.proofs.JobPlans.{image_not_read as not_read, work_runs}

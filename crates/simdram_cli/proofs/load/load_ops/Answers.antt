@@ -1,4 +1,4 @@
-use Rattle.std.proofs.lemmas.Result.{err_from_is_err_and}
+use Rattle.simdram_cli.proofs.Common.{err_from_is_err_and}
 use Rattle.simdram_cli.specs.Inputs.{ops_in}
 use Rattle.simdram_cli.specs.declared.words.TheConstants.{OPS_MAX}
 use Rattle.simdram_cli.proofs.Reading.{not_read, text_refused, text_unread, ops_refused, ops_parsed}

@@ -1,12 +1,9 @@
-use Rattle.std.proofs.Common.{arith, map}
-use Rattle.std.proofs.lemmas.List.{length-map}
-use Rattle.std.proofs.lemmas.Result.{err_from_is_err_and}
-use Rattle.bbop_isa.specs.Forms.{view_of}
+use Rattle.simdram_cli.proofs.Common.{arith, map, length-map, err_from_is_err_and, view_of}
+use Rattle.machine_model.proofs.Accepted.{accepted_is_plain}
 use Rattle.simdram_cli.specs.Inputs.{script_in}
 use Rattle.simdram_cli.specs.declared.words.TheConstants.{SCRIPT_MAX}
 use Rattle.simdram_cli.proofs.Reading.{not_read, text_refused, text_unread, script_refused}
 use Rattle.simdram_cli.proofs.Reading.{script_accepted}
-use Rattle.machine_model.proofs.Accepted.{accepted_is_plain}
 use Rattle.simdram_cli.proofs.Scripts.{accepted_few}
 use Rattle.simdram_cli.proofs.load.load_script.Goals as goal
 

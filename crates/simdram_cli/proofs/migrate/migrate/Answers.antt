@@ -1,9 +1,7 @@
-use Rattle.std.proofs.Common.{sym, ◌∙◌, ap, length}
-use Rattle.std.proofs.lemmas.Result.{err_from_is_err_and}
-use Rattle.uprog_bin.specs.Spelling.{program_bytes}
-use Rattle.cli_model.proofs.Doing.{parsed, puts, refused, stores, unloaded, unput}
+use Rattle.simdram_cli.proofs.Common.{sym, ◌∙◌, ap, length, err_from_is_err_and, program_bytes}
+use Rattle.simdram_cli.proofs.Common.{parsed, puts, refused, stores, unloaded, unput, runs_answered}
+use Rattle.simdram_cli.proofs.Common.{runs_made}
 use Rattle.cli_model.proofs.Doing.{unstored as stops_at_store}
-use Rattle.cli_model.proofs.Running.{runs_answered, runs_made}
 use Rattle.simdram_cli.specs.declared.words.TheConstants.{PROG_MAX}
 use Rattle.simdram_cli.specs.Migrate.{migrated_line}
 use Rattle.simdram_cli.specs.Programs.{prog_in, prog_refusal, program_or_refusal}

@@ -1,14 +1,10 @@
-use Rattle.std.proofs.Common.{◌≡◌, ◌-◌, ◌/◌, map, subst, sym, ◌∙◌, ap}
-use Rattle.std.proofs.lemmas.Result.{err_from_is_err_and}
-use Rattle.op_text.specs.Language.{operations}
-use Rattle.uprog_bin.specs.Spelling.{program_bytes}
-use Rattle.cli_model.proofs.Doing.{parsed, puts, refused, stores, takes, unloaded, unput, unread}
-use Rattle.cli_model.proofs.Doing.{unstored as stops_at_store, wants}
-use Rattle.cli_model.proofs.Running.{runs_answered, runs_made}
+use Rattle.simdram_cli.proofs.Common.{◌≡◌, ◌-◌, ◌/◌, map, subst, sym, ◌∙◌, ap, err_from_is_err_and}
+use Rattle.simdram_cli.proofs.Common.{operations, program_bytes, parsed, puts, refused, stores}
+use Rattle.simdram_cli.proofs.Common.{takes, unloaded, unput, unread, wants, runs_answered}
+use Rattle.simdram_cli.proofs.Common.{runs_made, text_op, AreOutcomes}
+use Rattle.cli_model.proofs.Doing.{unstored as stops_at_store}
 use Rattle.simdram_cli.specs.declared.words.TheConstants.{OPS_MAX, PROG_MAX}
 use Rattle.simdram_cli.specs.Inputs.{ops_in}
-use Rattle.uprog_code.specs.Texts.{text_op}
-use Rattle.optimise_job.specs.Outcomes.{AreOutcomes}
 use Rattle.simdram_cli.specs.Optimise.{Made, room_for}
 use Rattle.simdram_cli.proofs.MadeFiles.{made_within}
 use Rattle.simdram_cli.specs.Programs.{prog_in, prog_refusal, program_or_refusal}

@@ -1,7 +1,4 @@
-use Rattle.std.proofs.Common.{map, ◌∙◌}
-use Rattle.op_text.specs.Language.{operations}
-use Rattle.uprog_code.specs.Shape.{microprograms_of}
-use Rattle.uprog_code.specs.Texts.{text_op}
+use Rattle.simdram_cli.proofs.Common.{map, ◌∙◌, operations, microprograms_of, text_op}
 use Rattle.optimise_job.specs.Outcomes.{lines_of}
 use Rattle.simdram_cli.proofs.optimise.optimised.Goals as goal
 

@@ -1,7 +1,4 @@
-use Rattle.std.proofs.Common.{◌∙◌, ap, inl, inr, refl}
-use Rattle.std.specs.Prelude.{Err}
-use Rattle.object_alloc.specs.Exact.{found_in}
-use Rattle.cli_model.specs.World.{world}
+use Rattle.simdram_cli.proofs.Common.{◌∙◌, ap, inl, inr, refl, Err, found_in, world}
 use Rattle.simdram_cli.specs.Inputs.{image_found}
 use Rattle.simdram_cli.proofs.Sending.{unopened_by}
 use Rattle.simdram_cli.proofs.Stores.{use_broke, used}

@@ -1,11 +1,6 @@
-use Rattle.std.proofs.Common.{inl, inr, refl, map, sym, ◌≡◌, ◌++◌, ◌∙◌}
-use Rattle.std.proofs.lemmas.Result.{err_from_is_err_and}
-use Rattle.host_edge.specs.Views.{AppendsPart}
-use Rattle.object_alloc.specs.Exact.{found_in}
-use Rattle.bbop_isa.specs.Forms.{view_of}
-use Rattle.machine_model.specs.Report.{total_line}
-use Rattle.cli_model.specs.World.{world}
-use Rattle.cli_model.specs.Steps.{Done, PutFailed, Stopped}
+use Rattle.simdram_cli.proofs.Common.{inl, inr, refl, map, sym, ◌≡◌, ◌++◌, ◌∙◌, err_from_is_err_and}
+use Rattle.simdram_cli.proofs.Common.{AppendsPart, found_in, view_of, total_line, world, Done}
+use Rattle.simdram_cli.proofs.Common.{PutFailed, Stopped}
 use Rattle.simdram_cli.specs.Inputs.{image_found}
 use Rattle.simdram_cli.proofs.Performing.{all_done, own_first, started_on, stopped_first}
 use Rattle.simdram_cli.proofs.Performing.{stopped_open, total_is, went_on}

@@ -1,13 +1,6 @@
-use Rattle.std.proofs.Common.{[], ap, map, subst, sym, ◌∙◌}
-use Rattle.std.proofs.lemmas.Result.{err_from_is_err_and}
-use Rattle.bbop_isa.specs.Forms.{view_of}
-use Rattle.dram_model.specs.Chip.{Banks, after}
-use Rattle.transpose_unit.specs.Stopped.{StoppedWithin}
-use Rattle.dram_model.proofs.EventLaws.{Kept-more}
-use Rattle.sim_machine.specs.Machine.{geometry_of, table_in}
-use Rattle.cli_model.specs.World.{world}
-use Rattle.cli_model.specs.Steps.{CannotWrite, ChipFailed, Done, Stopped}
-use Rattle.cli_model.specs.Waves.{doing}
+use Rattle.simdram_cli.proofs.Common.{[], ap, map, subst, sym, ◌∙◌, err_from_is_err_and, view_of}
+use Rattle.simdram_cli.proofs.Common.{Banks, after, StoppedWithin, Kept-more, geometry_of, table_in}
+use Rattle.simdram_cli.proofs.Common.{world, CannotWrite, ChipFailed, Done, Stopped, doing}
 use Rattle.simdram_cli.specs.Tracing.{events_on, image_on}
 use Rattle.simdram_cli.proofs.Sending.{left_by}
 use Rattle.simdram_cli.proofs.Stores.{at_err, at_ok, stored, unstored}

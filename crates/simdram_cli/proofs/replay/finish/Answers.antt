@@ -1,4 +1,4 @@
-use Rattle.std.proofs.Common.{sym, ◌∙◌}
+use Rattle.simdram_cli.proofs.Common.{sym, ◌∙◌}
 use Rattle.simdram_cli.specs.Replay.{replay_line}
 use Rattle.simdram_cli.proofs.Replaying.{all_put, not_put, not_stored}
 use Rattle.simdram_cli.proofs.Stores.{at_err, at_ok, stored, unstored}

@@ -1,7 +1,4 @@
-use Rattle.std.proofs.Common.{ap}
-use Rattle.std.proofs.lemmas.Result.{err_from_is_err_and}
-use Rattle.cli_model.proofs.Doing.{parsed, unloaded}
-use Rattle.cli_model.proofs.Running.{runs_made}
+use Rattle.simdram_cli.proofs.Common.{ap, err_from_is_err_and, parsed, unloaded, runs_made}
 use Rattle.simdram_cli.specs.declared.words.TheConstants.{TRACE_MAX}
 use Rattle.simdram_cli.specs.Traces.{trace_in, trace_or_refusal}
 use Rattle.simdram_cli.proofs.Replaying.{trace_not_read}

@@ -1,9 +1,5 @@
-use Rattle.std.proofs.Common.{◌∙◌}
-use Rattle.std.proofs.lemmas.Result.{err_from_is_err_and}
-use Rattle.object_alloc.specs.Exact.{found_in}
-use Rattle.cli_model.specs.World.{world}
-use Rattle.cli_model.specs.Steps.{Done, Stopped}
-use Rattle.cli_model.proofs.Running.{runs_answered, runs_stopped, runs_then}
+use Rattle.simdram_cli.proofs.Common.{◌∙◌, err_from_is_err_and, found_in, world, Done, Stopped}
+use Rattle.simdram_cli.proofs.Common.{runs_answered, runs_stopped, runs_then}
 use Rattle.simdram_cli.specs.Inputs.{image_found}
 use Rattle.simdram_cli.specs.Replay.{EventsDone, events_steps}
 use Rattle.simdram_cli.specs.Stops.{reason_of}

@@ -1,7 +1,5 @@
-use Rattle.std.proofs.lemmas.Result.{err_from_is_err_and}
-use Rattle.object_alloc.specs.Spelling.{rows_in}
-use Rattle.object_alloc.specs.Exact.{found_in}
-use Rattle.cli_model.proofs.Doing.{parsed, refused, unloaded}
+use Rattle.simdram_cli.proofs.Common.{err_from_is_err_and, rows_in, found_in, parsed, refused}
+use Rattle.simdram_cli.proofs.Common.{unloaded}
 use Rattle.simdram_cli.specs.declared.words.TheConstants.{IMAGE_MAX}
 use Rattle.simdram_cli.specs.Inputs.{image_found}
 use Rattle.simdram_cli.specs.Traces.{geometry_differs, image_for, same_geometry}

@@ -1,8 +1,5 @@
-use Rattle.std.proofs.Common.{ap, sym, ◌∙◌}
-use Rattle.std.proofs.lemmas.Result.{err_from_is_err_and}
-use Rattle.object_alloc.specs.Exact.{found_in}
-use Rattle.sim_machine.specs.Machine.{geometry_of}
-use Rattle.cli_model.specs.World.{world}
+use Rattle.simdram_cli.proofs.Common.{ap, sym, ◌∙◌, err_from_is_err_and, found_in, geometry_of}
+use Rattle.simdram_cli.proofs.Common.{world}
 use Rattle.simdram_cli.specs.Inputs.{image_found}
 use Rattle.simdram_cli.proofs.Replaying.{events_done, events_failed, file_is, reads_failed}
 use Rattle.simdram_cli.proofs.Replaying.{reads_still, rows_read, rows_unopened}

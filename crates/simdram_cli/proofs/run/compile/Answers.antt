@@ -1,5 +1,4 @@
-use Rattle.op_text.specs.Language.{operations}
-use Rattle.uprog_code.specs.Shape.{microprograms_of}
+use Rattle.simdram_cli.proofs.Common.{operations, microprograms_of}
 use Rattle.simdram_cli.proofs.Accepting.{taken}
 use Rattle.simdram_cli.proofs.run.compile.Goals as goal
 

@@ -1,9 +1,5 @@
-use Rattle.std.proofs.Common.{◌≡◌, ◌∙◌, subst}
-use Rattle.std.proofs.lemmas.Result.{err_from_is_err_and}
-use Rattle.uprog_code.specs.Shape.{microprograms_of}
-use Rattle.machine_model.specs.Routines.{Program}
-use Rattle.cli_model.specs.World.{world}
-use Rattle.cli_model.specs.Runs.{Runs}
+use Rattle.simdram_cli.proofs.Common.{◌≡◌, ◌∙◌, subst, err_from_is_err_and, microprograms_of}
+use Rattle.simdram_cli.proofs.Common.{Program, world, Runs}
 use Rattle.simdram_cli.specs.Plans.{job_plan, said_of}
 use Rattle.simdram_cli.specs.Run.{job_names}
 use Rattle.simdram_cli.proofs.Compiled.{compiled_stopped, compiled_taken}

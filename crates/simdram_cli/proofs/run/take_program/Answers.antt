@@ -1,6 +1,4 @@
-use Rattle.std.proofs.lemmas.Result.{err_from_is_err_and}
-use Rattle.uprog_code.specs.Shape.{microprograms_of}
-use Rattle.op_text.specs.Language.{operations}
+use Rattle.simdram_cli.proofs.Common.{err_from_is_err_and, microprograms_of, operations}
 use Rattle.simdram_cli.proofs.Running.{program_unread, taken_by, stopped_by}
 use Rattle.simdram_cli.proofs.run.take_program.Goals as goal
 

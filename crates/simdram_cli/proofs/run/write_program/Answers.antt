@@ -1,6 +1,4 @@
-use Rattle.std.proofs.Common.{[], sym, ◌∙◌}
-use Rattle.uprog_code.specs.Shape.{microprograms_of}
-use Rattle.uprog_bin.specs.Spelling.{program_bytes}
+use Rattle.simdram_cli.proofs.Common.{[], sym, ◌∙◌, microprograms_of, program_bytes}
 use Rattle.simdram_cli.proofs.Stores.{stored, unstored, take_stored, take_unstored, at_ok, at_err}
 use Rattle.simdram_cli.proofs.run.write_program.Goals as goal
 

@@ -1,12 +1,8 @@
-use Rattle.std.proofs.Common.{◌∙◌, List, ap, sym, subst}
-use Rattle.std.proofs.lemmas.Result.{err_from_is_err_and}
-use Rattle.uprog_code.specs.Shape.{Microprogram}
-use Rattle.uprog_code.specs.Texts.{ImplementsAll}
-use Rattle.object_alloc.specs.Exact.{found_in}
+use Rattle.simdram_cli.proofs.Common.{◌∙◌, List, ap, sym, subst, err_from_is_err_and, Microprogram}
+use Rattle.simdram_cli.proofs.Common.{ImplementsAll, found_in, geometry_of, program_of, table_in}
+use Rattle.simdram_cli.proofs.Common.{turn_in, world}
 use Rattle.scan_model.specs.Operations.{scan_text}
 use Rattle.scan_query.specs.Queries.{nodes_in}
-use Rattle.sim_machine.specs.Machine.{geometry_of, program_of, table_in, turn_in}
-use Rattle.cli_model.specs.World.{world}
 use Rattle.simdram_cli.specs.Inputs.{image_found}
 use Rattle.simdram_cli.proofs.Scanning.{RanOn, asked_done, asked_failed, answer_moves, no_stage}
 use Rattle.simdram_cli.proofs.Scanning.{checks_are, not_opened, query_done, query_left, room_opened}

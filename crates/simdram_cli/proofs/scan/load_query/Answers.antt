@@ -1,4 +1,4 @@
-use Rattle.std.proofs.lemmas.Result.{err_from_is_err_and}
+use Rattle.simdram_cli.proofs.Common.{err_from_is_err_and}
 use Rattle.simdram_cli.specs.Queries.{query_in}
 use Rattle.simdram_cli.specs.declared.words.TheConstants.{QUERY_MAX}
 use Rattle.simdram_cli.proofs.Reading.{not_read, text_refused, text_unread}

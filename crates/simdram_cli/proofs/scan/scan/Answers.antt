@@ -1,6 +1,4 @@
-use Rattle.std.proofs.lemmas.Result.{err_from_is_err_and}
-use Rattle.cli_model.proofs.Doing.{parsed, unread}
-use Rattle.cli_model.proofs.Running.{runs_made}
+use Rattle.simdram_cli.proofs.Common.{err_from_is_err_and, parsed, unread, runs_made}
 use Rattle.simdram_cli.specs.declared.words.TheConstants.{QUERY_MAX}
 use Rattle.simdram_cli.specs.Queries.{query_in}
 use Rattle.simdram_cli.proofs.scan.scan.Goals as goal

@@ -1,5 +1,4 @@
-use Rattle.uprog_code.specs.Shape.{microprograms_of}
-use Rattle.op_text.specs.Language.{operations}
+use Rattle.simdram_cli.proofs.Common.{microprograms_of, operations}
 use Rattle.simdram_cli.proofs.Scanning.{scan_file_is}
 use Rattle.simdram_cli.proofs.scan.scan_file.Goals as goal
 

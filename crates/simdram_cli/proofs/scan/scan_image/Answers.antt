@@ -1,9 +1,5 @@
-use Rattle.std.proofs.Common.{◌∙◌}
-use Rattle.std.proofs.lemmas.Result.{err_from_is_err_and}
-use Rattle.object_alloc.specs.Spelling.{rows_in}
-use Rattle.object_alloc.specs.Exact.{found_in}
-use Rattle.cli_model.specs.World.{world}
-use Rattle.cli_model.proofs.Doing.{parsed, unloaded, wants}
+use Rattle.simdram_cli.proofs.Common.{◌∙◌, err_from_is_err_and, rows_in, found_in, world, parsed}
+use Rattle.simdram_cli.proofs.Common.{unloaded, wants}
 use Rattle.simdram_cli.specs.declared.words.TheConstants.{IMAGE_MAX}
 use Rattle.simdram_cli.specs.Inputs.{image_found, image_of}
 use Rattle.simdram_cli.proofs.JobPlans.{image_not_read}

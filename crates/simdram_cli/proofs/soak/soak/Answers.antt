@@ -1,5 +1,4 @@
-use Rattle.std.specs.Prelude.{Ok, Err}
-use Rattle.cli_model.specs.World.{world}
+use Rattle.simdram_cli.proofs.Common.{Ok, Err, world}
 use Rattle.soak_job.specs.declared.job.SoakError.TheVariants as no
 use Rattle.simdram_cli.proofs.Soaking.{soak_runs}
 use Rattle.simdram_cli.proofs.soak.soak.Goals as goal

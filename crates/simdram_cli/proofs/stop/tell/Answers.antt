@@ -1,4 +1,4 @@
-use Rattle.std.proofs.Common.{sym}
+use Rattle.simdram_cli.proofs.Common.{sym}
 use Rattle.simdram_cli.proofs.stop.tell.Goals as goal
 
 pub returns-in-CannotRead-clause-sent : goal.returns-in-CannotRead-clause-sent

@@ -1,4 +1,4 @@
-use Rattle.cli_model.specs.World.{world}
+use Rattle.simdram_cli.proofs.Common.{world}
 use Rattle.simdram_cli.proofs.Answered.{command_answered}
 use Rattle.simdram_cli.proofs.top.dispatch.Goals as goal
 

@@ -1,5 +1,4 @@
-use Rattle.std.proofs.Common.{sym, ◌∙◌}
-use Rattle.cli_model.specs.World.{world}
+use Rattle.simdram_cli.proofs.Common.{sym, ◌∙◌, world}
 use Rattle.simdram_cli.proofs.Promising.{answers_one, completes_on, keeps_promises, spares_on}
 use Rattle.simdram_cli.proofs.Promising.{usage_of}
 use Rattle.simdram_cli.proofs.top.simdram.Goals as goal

@@ -1,11 +1,8 @@
-use Rattle.std.proofs.Common.{◌≡◌, rules, sym, ◌∙◌, ap, refl, map}
-use Rattle.std.specs.Prelude.{Ok, Err, Some}
-use Rattle.std.proofs.lemmas.Result.{err_from_is_err_and}
-use Rattle.bbop_isa.specs.Forms.{view_of}
-use Rattle.dram_model.specs.View.{ChipView, HasBegun}
-use Rattle.cmd_trace.specs.Tape.{empty_log, file_on, recorded}
-use Rattle.cmd_trace.specs.Widths.{has_begun_below}
-use Rattle.cli_model.specs.World.{world}
+use Rattle.simdram_cli.proofs.Common.{◌≡◌, rules, sym, ◌∙◌, ap, refl, map, Ok, Err}
+use Rattle.simdram_cli.proofs.Common.{err_from_is_err_and, view_of, ChipView, HasBegun, empty_log}
+use Rattle.simdram_cli.proofs.Common.{recorded, has_begun_below, world}
+use Rattle.std.specs.Prelude.{Some}
+use Rattle.cmd_trace.specs.Tape.{file_on}
 use Rattle.simdram_cli.specs.declared.stop.Stop.TheVariants as stop
 use Rattle.simdram_cli.specs.Tracing.{ScriptRecorded}
 use Rattle.simdram_cli.proofs.Stores.{at_err, at_ok, stored, unstored}

@@ -1,8 +1,4 @@
-use Rattle.std.proofs.Common.{sym, ◌∙◌, map}
-use Rattle.std.proofs.lemmas.Result.{err_from_is_err_and}
-use Rattle.object_alloc.specs.Exact.{found_in}
-use Rattle.bbop_isa.specs.Forms.{view_of}
-use Rattle.cli_model.specs.World.{world}
+use Rattle.simdram_cli.proofs.Common.{sym, ◌∙◌, map, err_from_is_err_and, found_in, view_of, world}
 use Rattle.simdram_cli.specs.Inputs.{image_found}
 use Rattle.simdram_cli.specs.Tracing.{OpensOn}
 use Rattle.simdram_cli.proofs.Stores.{at_err, at_ok}

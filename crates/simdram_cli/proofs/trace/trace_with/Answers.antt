@@ -1,7 +1,4 @@
-use Rattle.std.proofs.Common.{map}
-use Rattle.std.proofs.lemmas.Result.{err_from_is_err_and}
-use Rattle.bbop_isa.specs.Forms.{view_of}
-use Rattle.cli_model.proofs.Doing.{reads, unread}
+use Rattle.simdram_cli.proofs.Common.{map, err_from_is_err_and, view_of, reads, unread}
 use Rattle.simdram_cli.specs.declared.words.TheConstants.{SCRIPT_MAX}
 use Rattle.simdram_cli.specs.Inputs.{script_in}
 use Rattle.simdram_cli.proofs.trace.trace_with.Goals as goal

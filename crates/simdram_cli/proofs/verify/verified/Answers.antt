@@ -1,6 +1,4 @@
-use Rattle.std.proofs.Common.{map}
-use Rattle.op_text.specs.Language.{operations}
-use Rattle.uprog_code.specs.Texts.{text_op}
+use Rattle.simdram_cli.proofs.Common.{map, operations, text_op}
 use Rattle.simdram_cli.proofs.verify.verified.Goals as goal
 
 pub verify_all-requires : goal.verify_all-requires

@@ -1,8 +1,6 @@
-use Rattle.std.proofs.Common.{sym, ◌∙◌, ap}
-use Rattle.std.proofs.lemmas.Result.{err_from_is_err_and}
-use Rattle.op_text.specs.Language.{operations}
-use Rattle.cli_model.proofs.Doing.{parsed, puts, refused, takes, unloaded, unput, unread, wants}
-use Rattle.cli_model.proofs.Running.{runs_answered, runs_made}
+use Rattle.simdram_cli.proofs.Common.{sym, ◌∙◌, ap, err_from_is_err_and, operations, parsed, puts}
+use Rattle.simdram_cli.proofs.Common.{refused, takes, unloaded, unput, unread, wants, runs_answered}
+use Rattle.simdram_cli.proofs.Common.{runs_made}
 use Rattle.simdram_cli.specs.declared.words.TheConstants.{OPS_MAX, PROG_MAX}
 use Rattle.simdram_cli.specs.Inputs.{ops_in}
 use Rattle.simdram_cli.specs.Programs.{prog_in, prog_refusal, program_or_refusal}

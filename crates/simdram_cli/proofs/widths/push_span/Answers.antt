@@ -1,10 +1,8 @@
-use Rattle.std.proofs.Common.{◌≡◌, ◌+◌, ◌-◌, ◌<◌, ◌≤◌, ◌∷◌, [], ◌++◌, suc, length, ap, sym, ◌∙◌, arith}
-use Rattle.std.proofs.Common.{refl}
-use Rattle.std.specs.List.{range_with_len}
+use Rattle.simdram_cli.proofs.Common.{◌≡◌, ◌+◌, ◌-◌, ◌<◌, ◌≤◌, ◌∷◌, [], ◌++◌, suc, length, ap, sym}
+use Rattle.simdram_cli.proofs.Common.{◌∙◌, arith, refl, range_with_len, length-range_with_len}
+use Rattle.simdram_cli.proofs.Common.{WIDTH_MAX}
 use Rattle.std.proofs.lemmas.List.{append_assoc}
-use Rattle.std.proofs.lemmas.List.FromFn.{length-range_with_len}
 use Rattle.std.proofs.Common.{length-append}
-use Rattle.bit_rows.specs.declared.TheConstants.{WIDTH_MAX}
 use Rattle.simdram_cli.specs.Numbers.{value_of}
 use Rattle.simdram_cli.specs.Widths.{first_of, last_of}
 use Rattle.simdram_cli.proofs.WidthLists.{range_more, span_listed, span_not}

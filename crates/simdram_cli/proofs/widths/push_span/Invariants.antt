@@ -1,5 +1,4 @@
-use Rattle.std.proofs.Common.{◌≡◌, ◌++◌, ◌-◌}
-use Rattle.std.specs.List.{range_with_len}
+use Rattle.simdram_cli.proofs.Common.{◌≡◌, ◌++◌, ◌-◌, range_with_len}
 use Rattle.simdram_cli.proofs.widths.push_span.Given as goal
 
 -- the numbers of the span before the next one were appended

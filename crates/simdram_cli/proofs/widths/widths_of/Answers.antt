@@ -1,4 +1,4 @@
-use Rattle.std.proofs.Common.{rules, ◌≡◌, ◌∷◌, [], List, ℕ, ◌∙◌, ap, arith}
+use Rattle.simdram_cli.proofs.Common.{rules, ◌≡◌, ◌∷◌, [], List, ℕ, ◌∙◌, ap, arith}
 use Rattle.simdram_cli.specs.Widths.{parts_of, widths_in}
 use Rattle.simdram_cli.proofs.WidthLists.{listed, listed_all, listed_more, listed_not, no_comma}
 use Rattle.simdram_cli.proofs.WidthLists.{none_made, parts_cut, some_made}

@@ -1,4 +1,4 @@
-use Rattle.std.proofs.Common.{refl, sym}
+use Rattle.simdram_cli.proofs.Common.{refl, sym}
 use Rattle.simdram_cli.proofs.WidthLists.{widths_by}
 use Rattle.simdram_cli.proofs.words.cost_on.Goals as goal
 

@@ -1,7 +1,5 @@
-use Rattle.std.proofs.Common.{◌≡◌, ◌+◌, ◌-◌, ◌≤◌, drop, length, map}
-use Rattle.std.specs.List.{prefix_len}
-use Rattle.bbop_isa.specs.Forms.{view_of}
-use Rattle.machine_model.specs.Script.{is_bbop}
+use Rattle.simdram_cli.proofs.Common.{◌≡◌, ◌+◌, ◌-◌, ◌≤◌, drop, length, map, prefix_len, view_of}
+use Rattle.simdram_cli.proofs.Common.{is_bbop}
 use Rattle.simdram_cli.proofs.work.wave_len.Given as goal
 
 abbrev pub invariant-bbops : goal.invariant-bbops

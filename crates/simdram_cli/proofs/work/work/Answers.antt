@@ -1,10 +1,7 @@
-use Rattle.std.proofs.Common.{◌+◌, ◌<◌, ap, arith, length, ◌∙◌, map, drop}
-use Rattle.std.proofs.lemmas.Result.{err_from_is_err_and}
-use Rattle.std.proofs.lemmas.List.{drop_all, length-drop, length-map}
-use Rattle.bbop_isa.specs.Forms.{view_of}
-use Rattle.cli_model.specs.World.{world}
-use Rattle.dram_model.proofs.EventLaws.{Kept-more}
-use Rattle.sim_machine.specs.Machine.{geometry_of, operations_by, program_of, table_in, turn_in}
+use Rattle.simdram_cli.proofs.Common.{◌+◌, ◌<◌, ap, arith, length, ◌∙◌, map, drop}
+use Rattle.simdram_cli.proofs.Common.{err_from_is_err_and, length-map, view_of, world, Kept-more}
+use Rattle.simdram_cli.proofs.Common.{geometry_of, operations_by, program_of, table_in, turn_in}
+use Rattle.std.proofs.lemmas.List.{drop_all, length-drop}
 use Rattle.sim_machine.proofs.Keeping.{goes_more}
 use Rattle.simdram_cli.specs.Works.{next_piece}
 use Rattle.simdram_cli.proofs.Piecewise.{begins, did_none, stops_piece}

@@ -1,20 +1,11 @@
-use Rattle.std.proofs.Common.{◌≡◌, ◌+◌, ◌*◌, ◌≤◌, ◌-◌, drop, map, length}
-use Rattle.std.specs.Prelude.{count_by}
-use Rattle.std.specs.List.{AllByRecursion}
-use Rattle.host_edge.specs.Views.{FolderView}
-use Rattle.dram_model.specs.View.{ChipView, Kept}
-use Rattle.bbop_isa.specs.Forms.{view_of}
-use Rattle.machine_model.specs.Agrees.{IsPlain}
-use Rattle.machine_model.specs.Pieces.{events_of_pieces, pieces}
-use Rattle.machine_model.specs.Script.{is_refused, replies, rows_printed, sum_done, table_at_end}
-use Rattle.cli_model.specs.World.{World, world}
-use Rattle.cli_model.specs.Steps.{Goes, End}
-use Rattle.sim_machine.specs.Machine.{GoesOn, geometry_of, operations_by, table_in}
-use Rattle.sim_machine.specs.Machine.{turn_in}
-use Rattle.object_steps.specs.Objects.{RisesAtMost}
-use Rattle.sim_machine.specs.Steps.{DidAndRead}
-use Rattle.simdram_cli.specs.Job.{pieces_steps}
+use Rattle.simdram_cli.proofs.Common.{◌≡◌, ◌+◌, ◌*◌, ◌≤◌, ◌-◌, drop, map, length, count_by}
+use Rattle.simdram_cli.proofs.Common.{AllByRecursion, FolderView, ChipView, Kept, view_of, IsPlain}
+use Rattle.simdram_cli.proofs.Common.{events_of_pieces, pieces, is_refused, replies, rows_printed}
+use Rattle.simdram_cli.proofs.Common.{sum_done, table_at_end, World, world, Goes, End, geometry_of}
+use Rattle.simdram_cli.proofs.Common.{operations_by, table_in, turn_in, RisesAtMost, DidAndRead}
+use Rattle.sim_machine.specs.Machine.{GoesOn}
 use Rattle.uprog_code.specs.declared.TheConstants.{WALK_MAX}
+use Rattle.simdram_cli.specs.Job.{pieces_steps}
 use Rattle.simdram_cli.proofs.work.work.Given as goal
 
 -- what goes on from here goes as the whole

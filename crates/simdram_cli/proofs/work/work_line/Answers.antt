@@ -1,9 +1,5 @@
-use Rattle.std.proofs.Common.{refl, subst}
-use Rattle.transpose_unit.specs.Stopped.{StoppedWithin}
-use Rattle.bbop_isa.specs.Forms.{view_of}
-use Rattle.machine_model.specs.Pieces.{Alone, Piece}
-use Rattle.cli_model.specs.Waves.{doing}
-use Rattle.sim_machine.specs.Machine.{events_by, is_print}
+use Rattle.simdram_cli.proofs.Common.{refl, subst, StoppedWithin, view_of, Alone, Piece, doing}
+use Rattle.simdram_cli.proofs.Common.{events_by, is_print}
 use Rattle.sim_machine.proofs.Stepping.{alone}
 use Rattle.simdram_cli.proofs.Sending.{instr_done, instr_failed, left_by, shown_by}
 use Rattle.simdram_cli.proofs.work.work_line.Goals as goal

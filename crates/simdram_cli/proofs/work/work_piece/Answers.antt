@@ -1,5 +1,4 @@
-use Rattle.std.proofs.Common.{◌<◌, arith}
-use Rattle.std.proofs.lemmas.Result.{err_from_is_err_and}
+use Rattle.simdram_cli.proofs.Common.{◌<◌, arith, err_from_is_err_and}
 use Rattle.simdram_cli.proofs.Piecewise.{cut_bbops, cut_plain, cut_wave}
 use Rattle.simdram_cli.proofs.work.work_piece.Goals as goal
 

@@ -1,10 +1,6 @@
-use Rattle.std.proofs.Common.{refl, sym, ◌∙◌, ap, map}
-use Rattle.std.specs.Prelude.{count_by}
-use Rattle.std.proofs.lemmas.List.{length-map}
-use Rattle.bbop_isa.specs.Forms.{view_of}
-use Rattle.machine_model.specs.Script.{is_refused}
-use Rattle.machine_model.proofs.Parts.{waves_are_answered}
-use Rattle.sim_machine.specs.Machine.{geometry_of, operations_by, table_in, turn_in}
+use Rattle.simdram_cli.proofs.Common.{refl, sym, ◌∙◌, ap, map, count_by, length-map, view_of}
+use Rattle.simdram_cli.proofs.Common.{is_refused, waves_are_answered, geometry_of, operations_by}
+use Rattle.simdram_cli.proofs.Common.{table_in, turn_in}
 use Rattle.simdram_cli.proofs.Sending.{wave_did, wave_failed, wave_sent}
 use Rattle.simdram_cli.proofs.work.work_wave.Goals as goal
 

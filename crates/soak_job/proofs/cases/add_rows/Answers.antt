@@ -1,5 +1,4 @@
-use Rattle.std.proofs.Common.{◌∙◌, length, sym, ap, arith, append-nil, true, false}
-use Rattle.std.specs.Prelude.{not}
+use Rattle.soak_job.proofs.Common.{◌∙◌, length, sym, ap, arith, append-nil, true, false, not}
 use Rattle.soak_job.proofs.Counting.{cases_more}
 use Rattle.soak_job.proofs.cases.add_rows.Goals as goal
 use Rattle.soak_job.proofs.cases.add_rows.Goals.{then-is_none, else-is_none}

@@ -1,4 +1,4 @@
-use Rattle.std.proofs.Common.{◌≡◌, ◌≤◌, ◌+◌, ◌*◌, ◌++◌, length, drop}
+use Rattle.soak_job.proofs.Common.{◌≡◌, ◌≤◌, ◌+◌, ◌*◌, ◌++◌, length, drop}
 use Rattle.soak_job.proofs.Counting.{cases_in}
 use Rattle.soak_job.proofs.cases.add_rows.Given as goal
 

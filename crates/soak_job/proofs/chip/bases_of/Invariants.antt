@@ -1,4 +1,4 @@
-use Rattle.std.proofs.Common.{◌≡◌, ◌+◌, ◌*◌, ◌≤◌, ◌++◌, length, drop}
+use Rattle.soak_job.proofs.Common.{◌≡◌, ◌+◌, ◌*◌, ◌≤◌, ◌++◌, length, drop}
 use Rattle.soak_job.specs.Layout.{bases_from, source_row_count}
 use Rattle.soak_job.proofs.chip.bases_of.Given as goal
 

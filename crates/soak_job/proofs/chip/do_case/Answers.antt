@@ -1,18 +1,10 @@
-use Rattle.std.proofs.Common.{◌≡◌, ℕ, ◌*◌, ◌%◌, ◌^◌, List, map, sym, ap, ◌∙◌, subst}
-use Rattle.std.specs.Prelude.{sum_by}
-use Rattle.std.specs.List.{range_with_len}
-use Rattle.dram_model.specs.Chip.{Banks}
-use Rattle.dram_model.specs.Elements.{below, number}
-use Rattle.dram_model.specs.View.{Did, DidRead}
-use Rattle.op_text.specs.declared.tree.Kind.{Kind}
-use Rattle.uprog_code.specs.Shape.{Microprogram, width}
-use Rattle.uprog_code.specs.Implements.{numbers}
-use Rattle.uprog_code.specs.Texts.{EntryDoes, text_op}
-use Rattle.uprog_bin.specs.Opened.{program_of}
+use Rattle.soak_job.proofs.Common.{◌≡◌, ℕ, ◌*◌, ◌%◌, ◌^◌, List, map, sym, ap, ◌∙◌, subst, sum_by}
+use Rattle.soak_job.proofs.Common.{range_with_len, Banks, below, number, Did, DidRead, Kind}
+use Rattle.soak_job.proofs.Common.{Microprogram, width, numbers, EntryDoes, text_op, program_of}
+use Rattle.soak_job.proofs.Common.{StoppedWithin}
 use Rattle.soak_job.specs.declared.cases.Case.{Case}
 use Rattle.soak_job.specs.Cases.{one_statement}
 use Rattle.soak_job.specs.Words.{elements, sources_at}
-use Rattle.transpose_unit.specs.Stopped.{StoppedWithin}
 use Rattle.soak_job.specs.Layout.{bases_from, case_events, result_rows, source_row_count}
 use Rattle.soak_job.specs.Layout.{source_rows, source_writes}
 use Rattle.soak_job.specs.OneCase.{CaseDone, IsFileOf, IsProgramOf, WritesMore}

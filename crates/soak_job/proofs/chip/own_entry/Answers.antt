@@ -1,4 +1,4 @@
-use Rattle.std.proofs.Common.{[], ◌∷◌, refl, inr}
+use Rattle.soak_job.proofs.Common.{[], ◌∷◌, refl, inr}
 use Rattle.soak_job.proofs.Small.{program_small}
 use Rattle.soak_job.proofs.chip.own_entry.Goals as goal
 

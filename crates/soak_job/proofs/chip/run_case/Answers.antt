@@ -1,11 +1,6 @@
-use Rattle.std.proofs.Common.{◌≡◌, ◌<◌, ◌∙◌, ap, subst, map, List, ℕ}
-use Rattle.std.specs.Prelude.{OnErr, OnOk}
-use Rattle.dram_model.specs.declared.address.Command.{Command}
-use Rattle.dram_model.specs.Column.{run}
-use Rattle.dram_model.specs.View.{Did}
-use Rattle.uprog_bin.specs.Opened.{program_of}
-use Rattle.uprog_ctl.specs.Waves.{StoppedAmong, wave_events}
-use Rattle.wave_model.specs.Schedule.{Queues, in_turn, Ahead}
+use Rattle.soak_job.proofs.Common.{◌≡◌, ◌<◌, ◌∙◌, ap, subst, map, List, ℕ, OnErr, OnOk, Command}
+use Rattle.soak_job.proofs.Common.{run, Did, program_of, StoppedAmong, wave_events, Queues, in_turn}
+use Rattle.soak_job.proofs.Common.{Ahead}
 use Rattle.soak_job.proofs.Running.{case_runs, on_err, on_ok, own_queue, queues_are, within_wave}
 use Rattle.soak_job.proofs.chip.run_case.Goals as goal
 

@@ -1,6 +1,5 @@
-use Rattle.std.proofs.Common.{◌≡◌, List, [], inl, inr, refl, sym, subst, ◌∙◌}
-use Rattle.std.specs.List.{AllByRecursion}
-use Rattle.cli_model.specs.World.{world}
+use Rattle.soak_job.proofs.Common.{◌≡◌, List, [], inl, inr, refl, sym, subst, ◌∙◌, AllByRecursion}
+use Rattle.soak_job.proofs.Common.{world}
 use Rattle.soak_job.specs.declared.cases.Case.{Case}
 use Rattle.soak_job.specs.Cases.{soak_cases}
 use Rattle.soak_job.specs.Done.{CanBeDone, CasesGo}

@@ -1,6 +1,5 @@
-use Rattle.std.proofs.Common.{◌≡◌, ◌++◌, ℕ, List, ap, sym, subst, ◌∙◌}
-use Rattle.host_edge.specs.Views.{AppendsPart, Known}
-use Rattle.uprog_code.specs.declared.walker.Counts.{Counts}
+use Rattle.soak_job.proofs.Common.{◌≡◌, ◌++◌, ℕ, List, ap, sym, subst, ◌∙◌, AppendsPart, Known}
+use Rattle.soak_job.proofs.Common.{Counts}
 use Rattle.soak_job.specs.OneCase.{IsFileOf}
 use Rattle.soak_job.specs.Sums.{case_line, in_both_banks, counted_line}
 use Rattle.soak_job.proofs.Making.{at_err, at_ok}

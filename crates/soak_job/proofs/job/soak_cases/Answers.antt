@@ -1,13 +1,7 @@
-use Rattle.std.proofs.Common.{◌≡◌, ◌+◌, ◌∷◌, ◌++◌, ℕ, List, suc, ap, sym, subst, ◌∙◌, arith}
-use Rattle.std.proofs.Common.{drop, get_or}
-use Rattle.std.specs.Prelude.{None, Ok, Err}
+use Rattle.soak_job.proofs.Common.{◌≡◌, ◌+◌, ◌∷◌, ◌++◌, ℕ, List, suc, ap, sym, subst, ◌∙◌, arith}
+use Rattle.soak_job.proofs.Common.{drop, get_or, None, Ok, Err, AllByRecursion, drop-cons, drop_all}
+use Rattle.soak_job.proofs.Common.{AppendsPart, FolderView, Known, Kept-more, world}
 use Rattle.soak_job.specs.declared.job.SoakError.TheVariants as no
-use Rattle.std.specs.List.{AllByRecursion}
-use Rattle.std.proofs.Math.Seq.{drop-cons}
-use Rattle.std.proofs.lemmas.List.{drop_all}
-use Rattle.host_edge.specs.Views.{AppendsPart, FolderView, Known}
-use Rattle.dram_model.proofs.EventLaws.{Kept-more}
-use Rattle.cli_model.specs.World.{world}
 use Rattle.op_text.specs.declared.word_ops.WordOp.TheVariants as o
 use Rattle.soak_job.specs.declared.cases.Case.{Case}
 use Rattle.soak_job.specs.Sums.{last_line}

@@ -1,9 +1,5 @@
-use Rattle.std.proofs.Common.{◌≡◌, ◌*◌, ◌≤◌, ◌^◌, drop}
-use Rattle.std.specs.Prelude.{Result}
-use Rattle.std.specs.List.{AllByRecursion}
-use Rattle.host_edge.specs.Views.{FolderView}
-use Rattle.dram_model.specs.View.{Kept}
-use Rattle.cli_model.specs.World.{World, world}
+use Rattle.soak_job.proofs.Common.{◌≡◌, ◌*◌, ◌≤◌, ◌^◌, drop, Result, AllByRecursion, FolderView}
+use Rattle.soak_job.proofs.Common.{Kept, World, world}
 use Rattle.soak_job.specs.declared.job.SoakError.{SoakError}
 use Rattle.soak_job.specs.Done.{CanBeDone, CasesGo}
 use Rattle.soak_job.proofs.job.soak_cases.Given as goal

@@ -1,11 +1,5 @@
-use Rattle.dram_model.specs.declared.geometry.Geometry.{Geometry}
-use Rattle.std.proofs.Common.{◌∷◌, ◌≡◌, ◌∙◌, ◌*◌, ◌<◌, ◌^◌, ◌+◌, suc, sym, ap, subst, arith, drop}
-use Rattle.std.proofs.Common.{get_or}
-use Rattle.std.specs.Prelude.{All}
-use Rattle.std.proofs.Math.Seq.{drop-cons}
-use Rattle.std.proofs.lemmas.List.{drop_all}
-use Rattle.op_text.specs.declared.tree.Kind.TheVariants.{Word}
-use Rattle.dram_model.proofs.EventLaws.{Kept-more}
+use Rattle.soak_job.proofs.Common.{Geometry, ◌∷◌, ◌≡◌, ◌∙◌, ◌*◌, ◌<◌, ◌^◌, ◌+◌, suc, sym, ap, subst}
+use Rattle.soak_job.proofs.Common.{arith, drop, get_or, All, drop-cons, drop_all, Word, Kept-more}
 use Rattle.soak_job.proofs.Counting.{values_small}
 use Rattle.soak_job.proofs.Running.{on_err_always}
 use Rattle.soak_job.proofs.Loading.{all_loaded, has_rows, source_failed, step_as}

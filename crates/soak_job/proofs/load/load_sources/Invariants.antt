@@ -1,5 +1,4 @@
-use Rattle.std.proofs.Common.{◌≡◌, drop}
-use Rattle.dram_model.specs.View.{Kept}
+use Rattle.soak_job.proofs.Common.{◌≡◌, drop, Kept}
 use Rattle.soak_job.proofs.Loading.{SoFar}
 use Rattle.soak_job.proofs.load.load_sources.Given as goal
 

@@ -1,4 +1,4 @@
-use Rattle.std.proofs.Common.{◌≡◌, take}
+use Rattle.soak_job.proofs.Common.{◌≡◌, take}
 use Rattle.soak_job.specs.Cases.{params_of, source_names}
 use Rattle.soak_job.proofs.ops.params_of.Given as goal
 

@@ -1,8 +1,5 @@
-use Rattle.std.proofs.Common.{List, map, subst}
-use Rattle.op_text.specs.Language.{Operation}
+use Rattle.soak_job.proofs.Common.{List, map, subst, Operation, ImplementsAll, text_op, AreExact}
 use Rattle.uprog_code.specs.Shape.{microprograms_of}
-use Rattle.uprog_code.specs.Texts.{ImplementsAll, text_op}
-use Rattle.uprog_gen.specs.Totals.{AreExact}
 use Rattle.soak_job.proofs.Making.{if_ok, made}
 use Rattle.soak_job.proofs.programs.program_file.Goals as goal
 

@@ -1,9 +1,5 @@
-use Rattle.std.proofs.Common.{◌+◌, ◌%◌, ◌^◌, ◌∙◌, ap, sym, []}
-use Rattle.std.specs.Prelude.{sum}
-use Rattle.std.specs.List.{range_with_len}
-use Rattle.std.proofs.lemmas.List.Sums.{sum-map}
-use Rattle.dram_model.specs.Elements.{number}
-use Rattle.transpose_unit.specs.Stage.{stage_number}
+use Rattle.soak_job.proofs.Common.{◌+◌, ◌%◌, ◌^◌, ◌∙◌, ap, sym, [], sum, range_with_len, sum-map}
+use Rattle.soak_job.proofs.Common.{number, stage_number}
 use Rattle.transpose_unit.proofs.Stopping.{stopped_first}
 use Rattle.soak_job.proofs.Running.{on_err_always}
 use Rattle.soak_job.proofs.sums.add_bank.Goals as goal

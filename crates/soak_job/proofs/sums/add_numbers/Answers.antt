@@ -1,5 +1,4 @@
-use Rattle.std.proofs.Common.{◌≡◌, ◌%◌, ◌^◌, ap, arith, subst}
-use Rattle.transpose_unit.specs.Stage.{stage_number}
+use Rattle.soak_job.proofs.Common.{◌≡◌, ◌%◌, ◌^◌, ap, arith, subst, stage_number}
 use Rattle.soak_job.proofs.Counting.{sum_more, two_words}
 use Rattle.soak_job.proofs.sums.add_numbers.Goals as goal
 

@@ -1,6 +1,5 @@
-use Rattle.std.proofs.Common.{◌≡◌, ◌+◌, ◌%◌, ◌^◌, sum_by}
-use Rattle.std.specs.List.{range_with_len}
-use Rattle.transpose_unit.specs.Stage.{stage_number}
+use Rattle.soak_job.proofs.Common.{◌≡◌, ◌+◌, ◌%◌, ◌^◌, range_with_len, stage_number}
+use Rattle.std.proofs.Common.{sum_by}
 use Rattle.soak_job.proofs.sums.add_numbers.Given as goal
 
 -- the sum so far

@@ -1,8 +1,7 @@
-use Rattle.std.proofs.Common.{◌≡◌, ◌%◌, ◌^◌, ◌+◌, ◌∙◌, ap, sym, refl, arith, length-set, subst}
-use Rattle.std.proofs.Common.{take, map}
-use Rattle.std.proofs.Common.{suc}
+use Rattle.soak_job.proofs.Common.{◌≡◌, ◌%◌, ◌^◌, ◌+◌, ◌∙◌, ap, sym, refl, arith, subst, take, map}
+use Rattle.soak_job.proofs.Common.{suc, range_with_len}
+use Rattle.std.proofs.Common.{length-set}
 use Rattle.std.proofs.lemmas.List.{take_all}
-use Rattle.std.specs.List.{range_with_len}
 use Rattle.soak_job.specs.Words.{following, elements, value_at}
 use Rattle.soak_job.proofs.Counting.{drawn_parts, shifted, values_more}
 use Rattle.soak_job.proofs.words.draw.Goals as goal

@@ -1,5 +1,4 @@
-use Rattle.std.proofs.Common.{◌≡◌, take, map, length}
-use Rattle.std.specs.List.{range_with_len}
+use Rattle.soak_job.proofs.Common.{◌≡◌, take, map, length, range_with_len}
 use Rattle.soak_job.specs.Words.{following, elements, value_at}
 use Rattle.soak_job.proofs.words.draw.Given as goal
 

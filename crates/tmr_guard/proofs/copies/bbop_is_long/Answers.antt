@@ -1,4 +1,4 @@
-use Rattle.std.proofs.Common.{◌≡◌, ◌∙◌, sym}
+use Rattle.tmr_guard.proofs.Common.{◌≡◌, ◌∙◌, sym}
 use Rattle.tmr_guard.proofs.Long.{either_long}
 use Rattle.tmr_guard.proofs.copies.bbop_is_long.Goals as goal
 

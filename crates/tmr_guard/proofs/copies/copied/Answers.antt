@@ -1,8 +1,5 @@
-use Rattle.std.proofs.Common.{◌≡◌, ◌∙◌, ap, sym, subst, false, ◌||◌, List, map}
-use Rattle.std.specs.List.{list_any}
-use Rattle.bbop_isa.specs.Forms.{view_of}
-use Rattle.bbop_isa.specs.declared.instr.Place.{Place}
-use Rattle.guard_model.specs.Named.{has_long_name, is_long}
+use Rattle.tmr_guard.proofs.Common.{◌≡◌, ◌∙◌, ap, sym, subst, false, ◌||◌, List, map, list_any}
+use Rattle.tmr_guard.proofs.Common.{view_of, Place, has_long_name, is_long}
 use Rattle.tmr_guard.proofs.Long.{rest_no, short_at}
 use Rattle.tmr_guard.proofs.copies.copied.Goals as goal
 

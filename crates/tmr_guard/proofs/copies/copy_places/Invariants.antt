@@ -1,5 +1,4 @@
-use Rattle.std.proofs.Common.{◌≡◌, map, take}
-use Rattle.guard_model.specs.Guarded.{place_on}
+use Rattle.tmr_guard.proofs.Common.{◌≡◌, map, take, place_on}
 use Rattle.tmr_guard.proofs.copies.copy_places.Given as goal
 
 abbrev pub invariant-loop-place : goal.invariant-loop-place

@@ -1,7 +1,4 @@
-use Rattle.std.proofs.Common.{◌+◌, ◌∙◌, ap, sym}
-use Rattle.std.specs.Option.{option_map}
-use Rattle.bbop_isa.specs.Forms.{view_of}
-use Rattle.guard_model.specs.Named.{has_long_name}
+use Rattle.tmr_guard.proofs.Common.{◌+◌, ◌∙◌, ap, sym, option_map, view_of, has_long_name}
 use Rattle.tmr_guard.proofs.Placing.{position_mapped}
 use Rattle.tmr_guard.proofs.copies.first_long.Goals as goal
 

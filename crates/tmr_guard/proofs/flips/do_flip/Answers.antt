@@ -1,5 +1,4 @@
-use Rattle.std.proofs.Common.{◌∙◌, ap}
-use Rattle.guard_model.specs.Flips.{with_bit_inverted}
+use Rattle.tmr_guard.proofs.Common.{◌∙◌, ap, with_bit_inverted}
 use Rattle.tmr_guard.proofs.Flipping.{banks_of, flip_done, log_of, no_event_of, others_of}
 use Rattle.tmr_guard.proofs.Flipping.{unfailed_of}
 use Rattle.tmr_guard.proofs.flips.do_flip.Goals as goal

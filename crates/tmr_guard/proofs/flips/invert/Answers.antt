@@ -1,8 +1,6 @@
-use Rattle.std.proofs.Common.{◌≡◌, ℕ, ◌*◌, ◌%◌, ◌^◌, ◌<◌, ap, ◌∙◌, arith}
-use Rattle.std.specs.Int.Bits.{bit_xor}
+use Rattle.tmr_guard.proofs.Common.{◌≡◌, ℕ, ◌*◌, ◌%◌, ◌^◌, ◌<◌, ap, ◌∙◌, arith, bit_xor, bits}
 use Rattle.std.proofs.Math.Nat.{mod-eq_of_lt}
 use Rattle.std.proofs.Math.Pow.{pow-lt}
-use Rattle.bit_rows.specs.Bits.{bits}
 use Rattle.tmr_guard.proofs.Columns.{word_inverted}
 use Rattle.tmr_guard.proofs.flips.invert.Goals as goal
 

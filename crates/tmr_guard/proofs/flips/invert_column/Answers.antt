@@ -1,4 +1,4 @@
-use Rattle.std.proofs.Common.{◌/◌, ◌%◌, arith}
+use Rattle.tmr_guard.proofs.Common.{◌/◌, ◌%◌, arith}
 use Rattle.tmr_guard.proofs.Columns.{row_inverted}
 use Rattle.tmr_guard.proofs.flips.invert_column.Goals as goal
 

@@ -1,6 +1,4 @@
-use Rattle.std.proofs.Common.{ap, refl}
-use Rattle.bbop_isa.specs.Forms.{view_of}
-use Rattle.sim_machine.specs.Machine.{geometry_of, program_of, table_in, turn_in}
+use Rattle.tmr_guard.proofs.Common.{ap, refl, view_of, geometry_of, program_of, table_in, turn_in}
 use Rattle.tmr_guard.proofs.Runs.{ran_one}
 use Rattle.tmr_guard.proofs.guards.done.Goals as goal
 

@@ -1,4 +1,4 @@
-use Rattle.std.proofs.Common.{arith}
+use Rattle.tmr_guard.proofs.Common.{arith}
 use Rattle.tmr_guard.proofs.Read.{refused_has_byte}
 use Rattle.tmr_guard.proofs.texts.parse_flips.Goals as goal
 

@@ -1,4 +1,4 @@
-use Rattle.std.proofs.Common.{arith, sym, ◌∙◌}
+use Rattle.tmr_guard.proofs.Common.{arith, sym, ◌∙◌}
 use Rattle.tmr_guard.proofs.Strangers.{three_first, three_second, three_third, three_all}
 use Rattle.tmr_guard.proofs.Strangers.{last_first, last_alone, last_second, last_both}
 use Rattle.tmr_guard.proofs.triples.first_stranger.Goals as goal

@@ -1,10 +1,7 @@
-use Rattle.std.proofs.Common.{◌+◌, ◌*◌, ◌<◌, arith, refl, sym, ap, subst, ◌∙◌, length, take}
+use Rattle.tmr_guard.proofs.Common.{◌+◌, ◌*◌, ◌<◌, arith, refl, sym, ap, subst, ◌∙◌, length, take}
+use Rattle.tmr_guard.proofs.Common.{Named, vote_count, vote_events, Did, Kept-more, on_err}
 use Rattle.object_alloc.specs.Spelling.{IsObject}
-use Rattle.object_alloc.specs.Listed.{Named}
-use Rattle.guard_model.specs.Votes.{vote_count, vote_events}
-use Rattle.dram_model.specs.View.{Did}
-use Rattle.dram_model.proofs.EventLaws.{Did-none, Kept-same, Kept-more}
-use Rattle.object_steps.proofs.Filled.{on_err}
+use Rattle.dram_model.proofs.EventLaws.{Did-none, Kept-same}
 use Rattle.tmr_guard.proofs.Rounds.{next_triple, next_count, widths, got, below_rows, object_at}
 use Rattle.tmr_guard.proofs.Rounds.{all_taken}
 use Rattle.tmr_guard.proofs.Stops.{triple_stopped}

@@ -1,6 +1,4 @@
-use Rattle.std.proofs.Common.{◌≡◌, ◌+◌, ◌*◌, ◌≤◌, take}
-use Rattle.dram_model.specs.View.{Kept, Did}
-use Rattle.guard_model.specs.Votes.{vote_events, vote_count}
+use Rattle.tmr_guard.proofs.Common.{◌≡◌, ◌+◌, ◌*◌, ◌≤◌, take, Kept, Did, vote_events, vote_count}
 use Rattle.tmr_guard.proofs.votes.vote_all.Given as goal
 
 -- the triples so far were voted

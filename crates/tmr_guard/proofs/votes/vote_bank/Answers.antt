@@ -1,8 +1,5 @@
-use Rattle.std.proofs.Common.{◌≡◌, ℕ, ◌+◌, ◌<◌, ◌++◌, ◌∙◌, arith}
-use Rattle.dram_model.specs.Events.{row_events}
-use Rattle.dram_model.proofs.EventLaws.{Kept-more}
-use Rattle.object_steps.proofs.Filled.{on_err}
-use Rattle.guard_model.specs.Votes.{row_vote, votes}
+use Rattle.tmr_guard.proofs.Common.{◌≡◌, ℕ, ◌+◌, ◌<◌, ◌++◌, ◌∙◌, arith, row_events, Kept-more}
+use Rattle.tmr_guard.proofs.Common.{on_err, row_vote, votes}
 use Rattle.tmr_guard.proofs.Rounds.{next_votes, one_row}
 use Rattle.tmr_guard.proofs.Stops.{in_turn}
 use Rattle.tmr_guard.proofs.votes.vote_bank.Goals as goal

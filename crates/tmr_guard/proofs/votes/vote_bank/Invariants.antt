@@ -1,7 +1,4 @@
-use Rattle.std.proofs.Common.{◌≡◌, ◌+◌, ◌*◌}
-use Rattle.dram_model.specs.Events.{row_events}
-use Rattle.dram_model.specs.View.{Kept, Did}
-use Rattle.guard_model.specs.Votes.{votes}
+use Rattle.tmr_guard.proofs.Common.{◌≡◌, ◌+◌, ◌*◌, row_events, Kept, Did, votes}
 use Rattle.tmr_guard.proofs.votes.vote_bank.Given as goal
 
 -- the rows so far were voted

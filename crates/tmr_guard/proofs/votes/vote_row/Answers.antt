@@ -1,4 +1,4 @@
-use Rattle.object_steps.proofs.Filled.{on_err}
+use Rattle.tmr_guard.proofs.Common.{on_err}
 use Rattle.tmr_guard.proofs.Flipping.{six_did}
 use Rattle.tmr_guard.proofs.Stops.{at_first, after_some, six_stopped}
 use Rattle.tmr_guard.proofs.votes.vote_row.Goals as goal

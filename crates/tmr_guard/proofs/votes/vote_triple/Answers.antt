@@ -1,12 +1,6 @@
-use Rattle.std.proofs.Common.{◌≡◌, ◌<◌, ◌∙◌, arith, subst}
-use Rattle.std.specs.Prelude.{flat_map}
-use Rattle.std.specs.List.{range_with_len}
-use Rattle.dram_model.specs.Events.{row_events}
-use Rattle.dram_model.specs.View.{Did}
-use Rattle.dram_model.proofs.EventLaws.{Kept-more}
-use Rattle.machine_model.specs.Columns.{segments}
-use Rattle.guard_model.specs.Votes.{votes}
-use Rattle.object_steps.proofs.Filled.{next_bank, on_err}
+use Rattle.tmr_guard.proofs.Common.{◌≡◌, ◌<◌, ◌∙◌, arith, subst, flat_map, range_with_len}
+use Rattle.tmr_guard.proofs.Common.{row_events, Did, Kept-more, segments, votes, on_err}
+use Rattle.object_steps.proofs.Filled.{next_bank}
 use Rattle.tmr_guard.proofs.Stops.{bank_stopped}
 use Rattle.tmr_guard.proofs.votes.vote_triple.Goals as goal
 

@@ -1,9 +1,5 @@
-use Rattle.std.proofs.Common.{◌≡◌, ◌+◌, ◌*◌, ◌≤◌}
-use Rattle.std.specs.Prelude.{flat_map}
-use Rattle.std.specs.List.{range_with_len}
-use Rattle.dram_model.specs.Events.{row_events}
-use Rattle.dram_model.specs.View.{Kept, Did}
-use Rattle.guard_model.specs.Votes.{votes}
+use Rattle.tmr_guard.proofs.Common.{◌≡◌, ◌+◌, ◌*◌, ◌≤◌, flat_map, range_with_len, row_events, Kept}
+use Rattle.tmr_guard.proofs.Common.{Did, votes}
 use Rattle.tmr_guard.proofs.votes.vote_triple.Given as goal
 
 -- the banks so far were voted

@@ -1,5 +1,5 @@
-use Rattle.std.proofs.Common.{◌≡◌, ℕ, ◌+◌, ◌*◌, ◌/◌, ◌<◌, ◌∙◌, arith, get_or, length, List, subst}
-use Rattle.bit_rows.specs.Bits.{bit_at}
+use Rattle.transpose_unit.proofs.Common.{◌≡◌, ℕ, ◌+◌, ◌*◌, ◌/◌, ◌<◌, ◌∙◌, arith, get_or, length}
+use Rattle.transpose_unit.proofs.Common.{List, subst, bit_at}
 use Rattle.transpose_unit.specs.Stage.{stage_rows}
 use Rattle.transpose_unit.proofs.Blocks.{two_words}
 use Rattle.transpose_unit.proofs.read.read_block.Goals as goal

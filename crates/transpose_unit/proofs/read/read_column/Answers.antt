@@ -1,7 +1,6 @@
-use Rattle.std.proofs.Common.{◌≡◌, ℕ, ◌+◌, ◌-◌, ◌*◌, ◌/◌, ◌%◌, ◌<◌, ◌≤◌, List, length, get_or, sym}
-use Rattle.std.proofs.Common.{ap, ◌∙◌, arith}
-use Rattle.std.proofs.lemmas.Nat.{mul-add-lt}
-use Rattle.bit_rows.specs.Bits.{bit_at, bit_in, bits_of_words}
+use Rattle.transpose_unit.proofs.Common.{◌≡◌, ℕ, ◌+◌, ◌-◌, ◌*◌, ◌/◌, ◌%◌, ◌<◌, ◌≤◌, List, length}
+use Rattle.transpose_unit.proofs.Common.{get_or, sym, ap, ◌∙◌, arith, mul-add-lt, bit_at, bit_in}
+use Rattle.transpose_unit.proofs.Common.{bits_of_words}
 use Rattle.transpose_unit.specs.Stage.{stage_row}
 use Rattle.transpose_unit.proofs.Columns.{stage_bit, value_more}
 use Rattle.transpose_unit.proofs.Rows.{rows-enough, one-more, byte-small, placed}

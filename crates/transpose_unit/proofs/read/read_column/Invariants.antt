@@ -1,6 +1,5 @@
-use Rattle.std.proofs.Common.{◌≡◌, ◌-◌, ◌<◌, ◌^◌, map}
-use Rattle.std.specs.List.{range_with_len}
-use Rattle.bit_rows.specs.Bits.{value, bit_in, bits_of_words}
+use Rattle.transpose_unit.proofs.Common.{◌≡◌, ◌-◌, ◌<◌, ◌^◌, map, range_with_len, value, bit_in}
+use Rattle.transpose_unit.proofs.Common.{bits_of_words}
 use Rattle.transpose_unit.specs.Stage.{stage_row}
 use Rattle.transpose_unit.proofs.read.read_column.Given as goal
 

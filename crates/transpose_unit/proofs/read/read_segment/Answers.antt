@@ -1,10 +1,8 @@
-use Rattle.std.proofs.Common.{◌≡◌, ℕ, ◌+◌, ◌∙◌, ◌*◌, ◌-◌, ◌≤◌, refl, ap, arith}
-use Rattle.dram_model.proofs.EventLaws.{Kept-more, DidRead-more}
+use Rattle.transpose_unit.proofs.Common.{◌≡◌, ℕ, ◌+◌, ◌∙◌, ◌*◌, ◌-◌, ◌≤◌, refl, ap, arith}
+use Rattle.transpose_unit.proofs.Common.{Kept-more, bits_of_words, Geometry, Banks, row_in}
+use Rattle.transpose_unit.proofs.Common.{column_count}
+use Rattle.dram_model.proofs.EventLaws.{DidRead-more}
 use borrow.Rule.Slice.PartMut.{post_of}
-use Rattle.bit_rows.specs.Bits.{bits_of_words}
-use Rattle.dram_model.specs.declared.geometry.Geometry.{Geometry}
-use Rattle.dram_model.specs.Chip.{Banks, row_in}
-use Rattle.dram_model.specs.Elements.{column_count}
 use Rattle.transpose_unit.proofs.Columns.{rows_more, columns_read, one_row}
 use Rattle.transpose_unit.specs.Stage.{stage_rows}
 use Rattle.transpose_unit.proofs.Rows.{rows-enough}

@@ -1,7 +1,5 @@
-use Rattle.std.proofs.Common.{◌≡◌, ℕ, ◌+◌, ◌<◌}
-use Rattle.bit_rows.specs.Bits.{bits_of_words}
-use Rattle.dram_model.specs.Chip.{row_in}
-use Rattle.dram_model.specs.View.{Kept, DidRead}
+use Rattle.transpose_unit.proofs.Common.{◌≡◌, ℕ, ◌+◌, ◌<◌, bits_of_words, row_in, Kept}
+use Rattle.dram_model.specs.View.{DidRead}
 use Rattle.transpose_unit.specs.Stage.{stage_row}
 use Rattle.transpose_unit.proofs.read.read_segment.Given as goal
 

@@ -1,4 +1,4 @@
-use Rattle.std.proofs.Common.{◌≡◌, ℕ, ◌+◌, ◌*◌, ◌<◌, get_or, length}
+use Rattle.transpose_unit.proofs.Common.{◌≡◌, ℕ, ◌+◌, ◌*◌, ◌<◌, get_or, length}
 use Rattle.transpose_unit.proofs.read.rows_at.Given as goal
 
 abbrev pub invariant-loop-k : goal.invariant-loop-k

@@ -1,4 +1,4 @@
-use Rattle.std.proofs.Common.{◌+◌, ◌/◌, ◌%◌, ◌^◌, ◌∙◌, get_or, arith, length-set}
+use Rattle.transpose_unit.proofs.Common.{◌+◌, ◌/◌, ◌%◌, ◌^◌, ◌∙◌, get_or, arith, length-set}
 use Rattle.transpose_unit.proofs.Sets.{set_more}
 use Rattle.transpose_unit.proofs.stage.block_at.Goals as goal
 

@@ -1,4 +1,4 @@
-use Rattle.std.proofs.Common.{◌≡◌, ℕ, ◌+◌, ◌/◌, ◌%◌, ◌^◌, ◌<◌, get_or, length}
+use Rattle.transpose_unit.proofs.Common.{◌≡◌, ℕ, ◌+◌, ◌/◌, ◌%◌, ◌^◌, ◌<◌, get_or, length}
 use Rattle.transpose_unit.proofs.stage.block_at.Given as goal
 
 abbrev pub invariant-loop-i : goal.invariant-loop-i

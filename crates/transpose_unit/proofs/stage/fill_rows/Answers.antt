@@ -1,4 +1,4 @@
-use Rattle.std.proofs.Common.{arith}
+use Rattle.transpose_unit.proofs.Common.{arith}
 use Rattle.transpose_unit.proofs.Sets.{blocks_more}
 use Rattle.transpose_unit.proofs.stage.fill_rows.Goals as goal
 

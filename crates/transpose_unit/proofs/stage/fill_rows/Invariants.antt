@@ -1,5 +1,4 @@
-use Rattle.std.proofs.Common.{◌≡◌, ℕ, ◌+◌, ◌*◌, ◌<◌, get_or}
-use Rattle.bit_rows.specs.Bits.{bit_at}
+use Rattle.transpose_unit.proofs.Common.{◌≡◌, ℕ, ◌+◌, ◌*◌, ◌<◌, get_or, bit_at}
 use Rattle.transpose_unit.proofs.stage.fill_rows.Given as goal
 
 abbrev pub invariant-loop-w : goal.invariant-loop-w

@@ -1,5 +1,4 @@
-use Rattle.std.proofs.Common.{refl, ◌∙◌, arith}
-use Rattle.std.proofs.lemmas.Nat.{mul-add-lt}
+use Rattle.transpose_unit.proofs.Common.{refl, ◌∙◌, arith, mul-add-lt}
 use Rattle.transpose_unit.proofs.Sets.{column_more, column_others}
 use Rattle.transpose_unit.proofs.stage.put_block.Goals as goal
 

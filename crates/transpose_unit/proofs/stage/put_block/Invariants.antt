@@ -1,4 +1,4 @@
-use Rattle.std.proofs.Common.{◌≡◌, ◌≢◌, ℕ, ◌+◌, ◌*◌, ◌<◌, get_or}
+use Rattle.transpose_unit.proofs.Common.{◌≡◌, ◌≢◌, ℕ, ◌+◌, ◌*◌, ◌<◌, get_or}
 use Rattle.transpose_unit.proofs.stage.put_block.Given as goal
 
 abbrev pub invariant-loop-k : goal.invariant-loop-k

@@ -1,6 +1,6 @@
 use Rattle.transpose_unit.proofs.Exchanges.{IsMixed, no-step, step-more, last-step}
 use Rattle.transpose_unit.proofs.Exchanges.{mask-32, mask-16, mask-8, mask-4, mask-2, mask-1}
-use Rattle.std.proofs.Common.{refl}
+use Rattle.transpose_unit.proofs.Common.{refl}
 use Rattle.transpose_unit.proofs.transpose.transpose64.Goals as goal
 
 pub exchange-requires-clause-mask : goal.exchange-requires-clause-mask

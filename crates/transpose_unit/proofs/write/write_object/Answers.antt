@@ -1,16 +1,12 @@
-use Rattle.std.proofs.Common.{◌≡◌, ◌≢◌, ℕ, ◌+◌, ◌*◌, ◌<◌, List, length, get_or, ap, subst, ◌∙◌}
-use Rattle.std.proofs.Common.{arith, mul-add}
-use Rattle.std.specs.List.{flat_map, range_with_len}
+use Rattle.transpose_unit.proofs.Common.{◌≡◌, ◌≢◌, ℕ, ◌+◌, ◌*◌, ◌<◌, List, length, get_or, ap}
+use Rattle.transpose_unit.proofs.Common.{subst, ◌∙◌, arith, mul-add, flat_map, range_with_len}
+use Rattle.transpose_unit.proofs.Common.{Geometry, Banks, Event, Did, Did-more, Kept-more}
+use Rattle.transpose_unit.proofs.Common.{column_count, segments_of, size_of, padded_to}
+use Rattle.transpose_unit.proofs.Common.{write_events, numbers_in, bit_at}
 use Rattle.std.specs.Int.{div_ceil}
-use Rattle.dram_model.specs.declared.geometry.Geometry.{Geometry}
-use Rattle.dram_model.specs.Chip.{Banks, Event}
-use Rattle.dram_model.specs.View.{Did}
+use Rattle.dram_model.specs.Elements.{FailedBelow}
 use Rattle.transpose_unit.specs.Stopped.{StoppedWithin}
-use Rattle.dram_model.proofs.EventLaws.{Did-more, Kept-more}
 use Rattle.transpose_unit.proofs.Stopping.{stopped_turn}
-use Rattle.dram_model.specs.Elements.{column_count, segments_of, size_of, padded_to, write_events}
-use Rattle.dram_model.specs.Elements.{numbers_in, FailedBelow}
-use Rattle.bit_rows.specs.Bits.{bit_at}
 use Rattle.transpose_unit.specs.Stage.{stage_rows}
 use Rattle.transpose_unit.proofs.Rows.{rows-enough}
 use Rattle.transpose_unit.proofs.Events.{on_err_always}

@@ -1,7 +1,5 @@
-use Rattle.std.proofs.Common.{◌≡◌, ◌+◌, ◌*◌, length}
-use Rattle.std.specs.List.{flat_map, range_with_len}
-use Rattle.dram_model.specs.Elements.{size_of, padded_to}
-use Rattle.dram_model.specs.View.{Kept, Did}
+use Rattle.transpose_unit.proofs.Common.{◌≡◌, ◌+◌, ◌*◌, length, flat_map, range_with_len, size_of}
+use Rattle.transpose_unit.proofs.Common.{padded_to, Kept, Did}
 use Rattle.transpose_unit.proofs.Segments.{bank_events}
 use Rattle.transpose_unit.proofs.write.write_object.Given as goal
 

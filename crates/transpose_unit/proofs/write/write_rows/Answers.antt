@@ -1,11 +1,7 @@
-use Rattle.std.proofs.Common.{◌≡◌, ℕ, ◌+◌, ◌-◌, ◌*◌, ◌∷◌, [], ◌≤◌, List, take, drop, ap, ◌∙◌, arith}
-use Rattle.std.proofs.Common.{refl}
-use Rattle.bit_rows.specs.Bits.{bits_of_words}
-use Rattle.dram_model.specs.Chip.{Banks, Event}
-use Rattle.dram_model.specs.Chip.Event.{Write}
-use Rattle.dram_model.specs.declared.dram.Counters.{Counters}
+use Rattle.transpose_unit.proofs.Common.{◌≡◌, ℕ, ◌+◌, ◌-◌, ◌*◌, ◌∷◌, [], ◌≤◌, List, take, drop, ap}
+use Rattle.transpose_unit.proofs.Common.{◌∙◌, arith, refl, bits_of_words, Banks, Event, Write}
+use Rattle.transpose_unit.proofs.Common.{Counters, Did-more, Kept-more}
 use Rattle.dram_model.specs.View.{FailedIn}
-use Rattle.dram_model.proofs.EventLaws.{Did-more, Kept-more}
 use Rattle.transpose_unit.specs.Stage.{stage_events, stage_row, stage_rows}
 use Rattle.transpose_unit.proofs.Columns.{one_row}
 use Rattle.transpose_unit.proofs.Rows.{rows-enough}

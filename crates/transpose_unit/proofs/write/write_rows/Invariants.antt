@@ -1,5 +1,4 @@
-use Rattle.std.proofs.Common.{◌≡◌, ◌+◌}
-use Rattle.dram_model.specs.View.{Kept, Did}
+use Rattle.transpose_unit.proofs.Common.{◌≡◌, ◌+◌, Kept, Did}
 use Rattle.transpose_unit.specs.Stage.{stage_events}
 use Rattle.transpose_unit.proofs.write.write_rows.Given as goal
 

@@ -1,6 +1,4 @@
-use Rattle.std.proofs.Common.{◌∷◌, [], ◌++◌, arith}
-use Rattle.std.proofs.lemmas.Result.{err_from_is_err_and}
-use Rattle.uprog_code.specs.Shape.{shape_of}
+use Rattle.uprog_bin.proofs.Common.{◌∷◌, [], ◌++◌, arith, err_from_is_err_and, shape_of}
 use Rattle.uprog_bin.specs.Reading.{uops_at}
 use Rattle.uprog_bin.proofs.Codes.{uops_more, uops_fault, uops_done}
 use Rattle.uprog_bin.proofs.checks.check_code.Goals as goal

@@ -1,6 +1,4 @@
-use Rattle.std.proofs.Common.{◌≡◌, ◌+◌, ◌-◌, ◌*◌, ◌≤◌, List, length}
-use Rattle.uprog_code.specs.declared.code.Uop.{Uop}
-use Rattle.uprog_code.specs.Shape.{shape_of}
+use Rattle.uprog_bin.proofs.Common.{◌≡◌, ◌+◌, ◌-◌, ◌*◌, ◌≤◌, List, length, Uop, shape_of}
 use Rattle.uprog_bin.specs.Reading.{uops_at}
 use Rattle.uprog_bin.proofs.Codes.{with_front}
 use Rattle.uprog_bin.proofs.checks.check_code.Given as goal

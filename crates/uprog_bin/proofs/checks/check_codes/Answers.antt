@@ -1,6 +1,5 @@
-use Rattle.std.proofs.Common.{◌≡◌, ◌+◌, ◌*◌, ◌∷◌, [], ◌++◌, List, drop, ap, ◌∙◌, arith}
-use Rattle.std.proofs.lemmas.Result.{err_from_is_err_and}
-use Rattle.uprog_code.specs.Shape.{shape_of, Microprogram}
+use Rattle.uprog_bin.proofs.Common.{◌≡◌, ◌+◌, ◌*◌, ◌∷◌, [], ◌++◌, List, drop, ap, ◌∙◌, arith}
+use Rattle.uprog_bin.proofs.Common.{err_from_is_err_and, shape_of, Microprogram}
 use Rattle.uprog_bin.specs.declared.directory.Listed.{Listed}
 use Rattle.uprog_bin.specs.Reading.{codes_at, listings_of, total_count}
 use Rattle.uprog_bin.proofs.Codes.{with_front, drop_is, codes_more, codes_fault, codes_done}

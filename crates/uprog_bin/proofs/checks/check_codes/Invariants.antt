@@ -1,5 +1,4 @@
-use Rattle.std.proofs.Common.{◌≡◌, ◌+◌, ◌*◌, ◌≤◌, List, length, drop}
-use Rattle.uprog_code.specs.Shape.{Microprogram}
+use Rattle.uprog_bin.proofs.Common.{◌≡◌, ◌+◌, ◌*◌, ◌≤◌, List, length, drop, Microprogram}
 use Rattle.uprog_bin.specs.Reading.{codes_at, listings_of, total_count}
 use Rattle.uprog_bin.proofs.Codes.{with_front}
 use Rattle.uprog_bin.proofs.checks.check_codes.Given as goal

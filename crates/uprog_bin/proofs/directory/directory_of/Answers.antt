@@ -1,5 +1,5 @@
-use Rattle.std.proofs.Common.{◌≡◌, ◌+◌, ◌-◌, ◌∷◌, [], ◌++◌, List, sym, ap, ◌∙◌, arith, Ok, Err}
-use Rattle.std.proofs.lemmas.Result.{err_from_is_err_and}
+use Rattle.uprog_bin.proofs.Common.{◌≡◌, ◌+◌, ◌-◌, ◌∷◌, [], ◌++◌, List, sym, ap, ◌∙◌, arith, Ok}
+use Rattle.uprog_bin.proofs.Common.{Err, err_from_is_err_and}
 use Rattle.uprog_bin.specs.declared.directory.Listed.{Listed}
 use Rattle.uprog_bin.specs.Reading.{listing_at, directory_at, listings_of, listing_of, Listing}
 use Rattle.uprog_bin.proofs.Listings.{listings_more, directory_more, directory_fault}

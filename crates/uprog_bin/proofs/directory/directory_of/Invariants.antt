@@ -1,5 +1,4 @@
-use Rattle.std.proofs.Common.{◌≡◌, ◌+◌, ◌-◌, ◌*◌, ◌≤◌, [], length}
-use Rattle.arrayvec.specs.ArrayVec.{array_vec_len}
+use Rattle.uprog_bin.proofs.Common.{◌≡◌, ◌+◌, ◌-◌, ◌*◌, ◌≤◌, [], length, array_vec_len}
 use Rattle.uprog_bin.specs.Reading.{directory_at, listings_of}
 use Rattle.uprog_bin.proofs.directory.directory_of.Given as goal
 

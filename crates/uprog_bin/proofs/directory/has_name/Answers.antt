@@ -1,4 +1,4 @@
-use Rattle.std.proofs.Common.{◌∙◌}
+use Rattle.uprog_bin.proofs.Common.{◌∙◌}
 use Rattle.uprog_bin.proofs.Listings.{has_name_is}
 use Rattle.uprog_bin.proofs.directory.has_name.Goals as goal
 

@@ -1,5 +1,4 @@
-use Rattle.std.proofs.Common.{◌+◌, ◌-◌, ◌/◌, ◌∷◌, [], ◌++◌, List, ap, ◌∙◌, arith}
-use Rattle.op_text.specs.declared.tree.Kind.{Kind}
+use Rattle.uprog_bin.proofs.Common.{◌+◌, ◌-◌, ◌/◌, ◌∷◌, [], ◌++◌, List, ap, ◌∙◌, arith, Kind}
 use Rattle.uprog_bin.specs.Reading.{kinds_of}
 use Rattle.uprog_bin.proofs.Listings.{kinds_more}
 use Rattle.uprog_bin.proofs.directory.kinds_of.Goals as goal

@@ -1,5 +1,4 @@
-use Rattle.std.proofs.Common.{◌≡◌, ◌-◌, ◌++◌}
-use Rattle.arrayvec.specs.ArrayVec.{array_vec_len}
+use Rattle.uprog_bin.proofs.Common.{◌≡◌, ◌-◌, ◌++◌, array_vec_len}
 use Rattle.uprog_bin.specs.Reading.{kinds_of}
 use Rattle.uprog_bin.proofs.directory.kinds_of.Given as goal
 

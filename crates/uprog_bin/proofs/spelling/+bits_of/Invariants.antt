@@ -1,4 +1,4 @@
-use Rattle.std.proofs.Common.{length}
+use Rattle.uprog_bin.proofs.Common.{length}
 use Rattle.uprog_bin.proofs.spelling.+bits_of.Given as goal
 
 abbrev pub decreases-bits_of : goal.decreases-bits_of

@@ -1,5 +1,4 @@
-use Rattle.std.proofs.Common.{◌<◌, ◌^◌, length, All, List, sym, subst}
-use Rattle.uprog_code.specs.declared.code.EntryCode.{EntryCode}
+use Rattle.uprog_bin.proofs.Common.{◌<◌, ◌^◌, length, All, List, sym, subst, EntryCode}
 use Rattle.uprog_bin.proofs.Entries.{all_short}
 use Rattle.uprog_bin.proofs.spelling.encode.Goals as goal
 

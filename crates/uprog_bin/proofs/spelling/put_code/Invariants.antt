@@ -1,5 +1,4 @@
-use Rattle.std.proofs.Common.{◌≡◌, ◌++◌, take}
-use Rattle.std.specs.List.{flat_map}
+use Rattle.uprog_bin.proofs.Common.{◌≡◌, ◌++◌, take, flat_map}
 use Rattle.uprog_bin.specs.Spelling.{instruction_bytes}
 use Rattle.uprog_bin.proofs.spelling.put_code.Given as goal
 

@@ -1,6 +1,4 @@
-use Rattle.std.proofs.Common.{◌≡◌, ◌++◌, take, map}
-use Rattle.std.specs.List.{flat_map}
-use Rattle.uprog_code.specs.Shape.{microprogram_of}
+use Rattle.uprog_bin.proofs.Common.{◌≡◌, ◌++◌, take, map, flat_map, microprogram_of}
 use Rattle.uprog_bin.specs.Spelling.{code_bytes}
 use Rattle.uprog_bin.proofs.spelling.put_codes.Given as goal
 

@@ -1,5 +1,4 @@
-use Rattle.std.proofs.Common.{◌≡◌, ◌*◌, ◌≤◌, ◌++◌, drop, map}
-use Rattle.uprog_code.specs.Shape.{microprogram_of}
+use Rattle.uprog_bin.proofs.Common.{◌≡◌, ◌*◌, ◌≤◌, ◌++◌, drop, map, microprogram_of}
 use Rattle.uprog_bin.specs.Spelling.{directory_bytes}
 use Rattle.uprog_bin.proofs.spelling.put_directory.Given as goal
 

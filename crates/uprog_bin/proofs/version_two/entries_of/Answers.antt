@@ -1,4 +1,4 @@
-use Rattle.std.proofs.Common.{sym, ◌∙◌}
+use Rattle.uprog_bin.proofs.Common.{sym, ◌∙◌}
 use Rattle.uprog_bin.specs.Opened.{IsProgramFile}
 use Rattle.uprog_bin.proofs.Versions.{file_long}
 use Rattle.uprog_bin.proofs.version_two.entries_of.Goals as goal

@@ -1,5 +1,4 @@
-use Rattle.std.proofs.Common.{sym, ap, ◌∙◌}
-use Rattle.std.specs.Prelude.{slice_set}
+use Rattle.uprog_bin.proofs.Common.{sym, ap, ◌∙◌, slice_set}
 use Rattle.uprog_bin.proofs.Versions.{version_byte}
 use Rattle.uprog_bin.proofs.version_two.migrate.Goals as goal
 

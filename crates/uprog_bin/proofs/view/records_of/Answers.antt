@@ -1,9 +1,7 @@
-use Rattle.std.proofs.Common.{◌+◌, ◌*◌, leb, eqb, length, arith}
-use Rattle.std.proofs.lemmas.Bool.{eqb-true}
+use Rattle.uprog_bin.proofs.Common.{◌+◌, ◌*◌, leb, eqb, length, arith, eqb-true, rule_ok}
 use Rattle.uprog_bin.specs.declared.fault.ProgKind.TheVariants as kinds
 use Rattle.uprog_bin.proofs.Files.{opened_from}
 use Rattle.uprog_bin.proofs.view.records_of.Goals as goal
-use Rattle.file_fields.proofs.Held.{rule_ok}
 
 pub returns-clause-ok : goal.returns-clause-ok
 returns-clause-ok c =

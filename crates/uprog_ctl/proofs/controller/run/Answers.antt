@@ -1,17 +1,11 @@
-use Rattle.std.proofs.Common.{◌≡◌, [], ◌∷◌, List, true, refl, sym, ap, ◌∙◌, subst, arith}
-use Rattle.dram_model.specs.declared.address.Command.{Command}
-use Rattle.dram_model.specs.Chip.Event.{Row}
-use Rattle.dram_model.specs.Events.{row_events}
+use Rattle.uprog_ctl.proofs.Common.{◌≡◌, [], ◌∷◌, List, true, refl, sym, ap, ◌∙◌, subst, arith}
+use Rattle.uprog_ctl.proofs.Common.{Command, Row, row_events, Geometry, Did, Did-more, Did-none}
+use Rattle.uprog_ctl.proofs.Common.{Kept-same, Kept-more, Walk, bound, bound_of, commands_from}
+use Rattle.uprog_ctl.proofs.Common.{StandsIn, issues_of, start_stands}
 use Rattle.dram_model.specs.Column.{is_legal}
-use Rattle.dram_model.specs.declared.geometry.Geometry.{Geometry}
-use Rattle.dram_model.specs.View.{Did}
-use Rattle.dram_model.proofs.EventLaws.{Did-more, Did-none, Kept-same, Kept-more}
-use Rattle.uprog_code.specs.declared.commands.Walk.{Walk}
-use Rattle.uprog_code.specs.Bound.{bound, bound_of}
 use Rattle.uprog_code.specs.Fits.{Fits}
-use Rattle.uprog_code.specs.Commands.{commands_from, StandsIn}
-use Rattle.uprog_code.specs.Machine.{issues_of, trace}
-use Rattle.uprog_code.proofs.Seek.{start_stands, start_commands, not_spent}
+use Rattle.uprog_code.specs.Machine.{trace}
+use Rattle.uprog_code.proofs.Seek.{start_commands, not_spent}
 use Rattle.uprog_ctl.proofs.Left.{few, others_stay}
 use Rattle.uprog_ctl.proofs.controller.run.Goals as goal
 

@@ -1,9 +1,5 @@
-use Rattle.std.proofs.Common.{◌≡◌, ◌+◌, ◌≤◌}
-use Rattle.dram_model.specs.Chip.{SameBut}
-use Rattle.dram_model.specs.Events.{row_events}
-use Rattle.dram_model.specs.View.{ChipView, Kept, Did}
-use Rattle.uprog_code.specs.declared.TheConstants.{WALK_MAX}
-use Rattle.uprog_code.specs.Commands.{commands_from, StandsIn}
+use Rattle.uprog_ctl.proofs.Common.{◌≡◌, ◌+◌, ◌≤◌, SameBut, row_events, ChipView, Kept, Did}
+use Rattle.uprog_ctl.proofs.Common.{WALK_MAX, commands_from, StandsIn}
 use Rattle.uprog_ctl.specs.Events.{trace_events}
 use Rattle.uprog_ctl.proofs.controller.run.Given as goal
 

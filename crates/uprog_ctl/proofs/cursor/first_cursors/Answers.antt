@@ -1,8 +1,7 @@
-use Rattle.std.proofs.Common.{◌≡◌, ◌+◌, List, [], ◌++◌, ◌∷◌, drop, length, subst, sym, ◌∙◌, arith, ap}
-use Rattle.dram_model.specs.declared.address.Command.{Command}
-use Rattle.std.proofs.lemmas.List.{length_push}
-use Rattle.uprog_ctl.specs.declared.cursor.Cursor.{Cursor}
+use Rattle.uprog_ctl.proofs.Common.{◌≡◌, ◌+◌, List, [], ◌++◌, ◌∷◌, drop, length, subst, sym, ◌∙◌}
+use Rattle.uprog_ctl.proofs.Common.{arith, ap, Command, length_push}
 use Rattle.arrayvec.specs.ArrayVec.{ArrayVec}
+use Rattle.uprog_ctl.specs.declared.cursor.Cursor.{Cursor}
 use Rattle.uprog_ctl.specs.Waves.{bound_jobs, job_queues}
 use Rattle.uprog_ctl.specs.Cursors.{AreAt, IsAt, StandsInFirst, left_after, left_from}
 use Rattle.uprog_ctl.proofs.Queue.{next_job, next_stands}

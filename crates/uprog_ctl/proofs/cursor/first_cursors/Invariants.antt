@@ -1,4 +1,4 @@
-use Rattle.std.proofs.Common.{◌≤◌, length}
+use Rattle.uprog_ctl.proofs.Common.{◌≤◌, length}
 use Rattle.uprog_ctl.specs.Waves.{bound_jobs, job_queues}
 use Rattle.uprog_ctl.specs.Cursors.{AreAt}
 use Rattle.uprog_ctl.proofs.cursor.first_cursors.Given as goal

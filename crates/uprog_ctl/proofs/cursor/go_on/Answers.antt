@@ -1,7 +1,4 @@
-use Rattle.std.proofs.Common.{List, [], ◌∙◌, ap, get_or, inr, sym}
-use Rattle.std.proofs.lemmas.List.{get_or_default}
-use Rattle.dram_model.specs.declared.address.Command.TheVariants.{Ap}
-use Rattle.dram_model.specs.declared.address.Addr.TheVariants.{B}
+use Rattle.uprog_ctl.proofs.Common.{List, [], ◌∙◌, ap, get_or, inr, sym, get_or_default, Ap, B}
 use Rattle.uprog_ctl.specs.declared.cursor.Cursor.{Cursor}
 use Rattle.uprog_ctl.specs.Waves.{bound_jobs}
 use Rattle.uprog_ctl.specs.Cursors.{left_after}

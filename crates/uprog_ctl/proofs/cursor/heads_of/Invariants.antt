@@ -1,4 +1,4 @@
-use Rattle.std.proofs.Common.{◌≡◌, take, length}
+use Rattle.uprog_ctl.proofs.Common.{◌≡◌, take, length}
 use Rattle.uprog_ctl.specs.Cursors.{AreHeads}
 use Rattle.uprog_ctl.proofs.cursor.heads_of.Given as goal
 

@@ -1,6 +1,5 @@
-use Rattle.std.proofs.Common.{◌≡◌, ◌+◌, List, ◌∷◌, ◌++◌, drop, sym, ap, ◌∙◌, subst}
-use Rattle.dram_model.specs.declared.address.Command.{Command}
-use Rattle.uprog_code.specs.Shape.{shape_of}
+use Rattle.uprog_ctl.proofs.Common.{◌≡◌, ◌+◌, List, ◌∷◌, ◌++◌, drop, sym, ap, ◌∙◌, subst, Command}
+use Rattle.uprog_ctl.proofs.Common.{shape_of}
 use Rattle.uprog_ctl.specs.declared.cursor.Cursor.{Cursor}
 use Rattle.uprog_ctl.specs.declared.cursor.JobHead.{JobHead}
 use Rattle.uprog_ctl.specs.Waves.{BoundJob, bound_job, bound_jobs, job_queues}

@@ -1,4 +1,4 @@
-use Rattle.std.proofs.Common.{◌≡◌, drop}
+use Rattle.uprog_ctl.proofs.Common.{◌≡◌, drop}
 use Rattle.uprog_ctl.specs.Waves.{bound_jobs}
 use Rattle.uprog_ctl.specs.Cursors.{left_after, left_from, StandsInFirst}
 use Rattle.uprog_ctl.proofs.cursor.move_on.Given as goal

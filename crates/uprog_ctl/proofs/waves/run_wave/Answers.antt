@@ -1,17 +1,10 @@
-use Rattle.std.proofs.Common.{◌≡◌, ◌<◌, ◌≤◌, List, [], ◌∷◌, length, refl, sym, ap}
-use Rattle.std.proofs.Common.{◌∙◌, subst, arith, Result, Ok, Err, rules}
+use Rattle.uprog_ctl.proofs.Common.{◌≡◌, ◌<◌, ◌≤◌, List, [], ◌∷◌, length, refl, sym, ap, ◌∙◌, subst}
+use Rattle.uprog_ctl.proofs.Common.{arith, length-map, Ap, B, Geometry, Banks, Row, Did, FailedIn}
+use Rattle.uprog_ctl.proofs.Common.{Kept-same, Kept-more, total_left, whole_picks, picks_whole}
+use Rattle.std.proofs.Common.{Result, Ok, Err, rules}
 use Rattle.std.specs.Prelude.{OnErr, slice_index_or}
-use Rattle.std.proofs.lemmas.List.{length-map}
-use Rattle.dram_model.specs.declared.address.Command.TheVariants.{Ap}
-use Rattle.dram_model.specs.declared.address.Addr.TheVariants.{B}
-use Rattle.dram_model.specs.declared.geometry.Geometry.{Geometry}
-use Rattle.dram_model.specs.Chip.{Banks}
-use Rattle.dram_model.specs.Chip.Event.{Row}
-use Rattle.dram_model.specs.View.{Did, FailedIn}
-use Rattle.dram_model.proofs.EventLaws.{Kept-same, Kept-more}
 use Rattle.dram_model.proofs.Shapes.{geometry_parts}
-use Rattle.wave_model.specs.Schedule.{total_left, whole_picks}
-use Rattle.wave_model.proofs.Waves.{picks_whole, wave_banks}
+use Rattle.wave_model.proofs.Waves.{wave_banks}
 use Rattle.uprog_ctl.specs.declared.cursor.Cursor.{Cursor}
 use Rattle.uprog_ctl.specs.Waves.{bound_job, bound_jobs, job_queues}
 use Rattle.uprog_ctl.specs.Cursors.{AreAt, MovesOn}

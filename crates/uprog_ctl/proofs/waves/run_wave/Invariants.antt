@@ -1,5 +1,4 @@
-use Rattle.std.proofs.Common.{◌≡◌}
-use Rattle.dram_model.specs.View.{Kept}
+use Rattle.uprog_ctl.proofs.Common.{◌≡◌, Kept}
 use Rattle.uprog_ctl.specs.Waves.{bound_jobs, job_queues}
 use Rattle.uprog_ctl.specs.Cursors.{AreHeads}
 use Rattle.uprog_ctl.proofs.Wave.{SoFar, work}

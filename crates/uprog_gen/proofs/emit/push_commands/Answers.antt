@@ -1,8 +1,5 @@
-use Rattle.std.proofs.Common.{take, ap, arith, length, length-append}
-use Rattle.std.proofs.lemmas.List.{length-map, length-take}
-use Rattle.uprog_code.specs.declared.code.Uop.{Uop}
-use Rattle.loop_ir.specs.Plain.{block_of}
-use Rattle.loop_laws.proofs.Costing.{turn-most}
+use Rattle.uprog_gen.proofs.Common.{take, ap, arith, length, length-append, length-map, length-take}
+use Rattle.uprog_gen.proofs.Common.{Uop, block_of, turn-most}
 use Rattle.uprog_gen.specs.Code.{code_uop}
 use Rattle.uprog_gen.proofs.emit.push_commands.Goals as goal
 

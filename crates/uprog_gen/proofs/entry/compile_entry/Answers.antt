@@ -1,8 +1,5 @@
-use Rattle.std.proofs.Common.{◌≤◌, refl, arith}
-use Rattle.loop_ir.specs.Flows.{AllFlow, flow_size}
-use Rattle.loop_ir.specs.Costs.{body_cost}
-use Rattle.loop_ir.specs.Limits.{IsSmall}
-use Rattle.uprog_code.specs.Shape.{shape_of}
+use Rattle.uprog_gen.proofs.Common.{◌≤◌, refl, arith, AllFlow, flow_size, body_cost, IsSmall}
+use Rattle.uprog_gen.proofs.Common.{shape_of}
 use Rattle.uprog_gen.proofs.Coding.Emitted.{next_flow, flow_at}
 use Rattle.uprog_gen.proofs.Coding.Joined.{code_is}
 use Rattle.uprog_gen.proofs.entry.compile_entry.Goals as goal

@@ -1,5 +1,4 @@
-use Rattle.std.proofs.Common.{◌≡◌, ◌+◌, length, arith}
-use Rattle.std.proofs.lemmas.Result.{on_ok_weaker}
+use Rattle.uprog_gen.proofs.Common.{◌≡◌, ◌+◌, length, arith, on_ok_weaker}
 use Rattle.uprog_gen.proofs.Coding.Emitted.{end_emits, do_emits, put_emits}
 use Rattle.uprog_gen.proofs.Coding.Emitted.{if_emits, loop_emits, last_emits, turn_emits}
 use Rattle.uprog_gen.proofs.flow.+flows.Goals as goal

@@ -1,10 +1,8 @@
-use Rattle.std.proofs.Common.{◌∙◌, ◌++◌, ◌∷◌, [], map, sym, ap, append_assoc}
-use Rattle.std.proofs.lemmas.List.{map-append}
+use Rattle.uprog_gen.proofs.Common.{◌∙◌, ◌++◌, ◌∷◌, [], map, sym, ap, append_assoc, map-append}
+use Rattle.uprog_gen.proofs.Common.{statement, flow_of}
 use Rattle.std.proofs.lemmas.Iterator.{YieldsList-from_slice, YieldsList-from_zip}
 use Rattle.std.proofs.lemmas.Iterator.Adapters.{YieldsList-from_vec}
 use Rattle.std.proofs.lemmas.Iterator.Consumers.{YieldsList-at, YieldsList-end}
-use Rattle.op_text.specs.Language.{statement}
-use Rattle.loop_ir.specs.Plain.{flow_of}
 use Rattle.uprog_gen.specs.Graphs.{graphed_of, statement_graph}
 use Rattle.uprog_gen.proofs.Meaning.Taken.{pair_graphs, pairs-append, pairs_are}
 use Rattle.uprog_gen.proofs.graphs.take_graphs.Goals as goal

@@ -1,4 +1,4 @@
-use Rattle.std.proofs.Common.{◌≡◌, ◌++◌, map}
+use Rattle.uprog_gen.proofs.Common.{◌≡◌, ◌++◌, map}
 use Rattle.uprog_gen.specs.Graphs.{graphed_of}
 use Rattle.uprog_gen.proofs.Meaning.Taken.{pair_graphs}
 use Rattle.uprog_gen.proofs.graphs.take_graphs.Given as goal

@@ -1,8 +1,5 @@
-use Rattle.std.proofs.Common.{◌≡◌, ◌∙◌, ◌≤◌, ap, map, length, refl, arith}
-use Rattle.std.proofs.lemmas.List.{take_all}
-use Rattle.op_text.specs.declared.tree.Param.{Param}
-use Rattle.op_text.specs.Language.{operation}
-use Rattle.op_rules.proofs.Few.{scratch_is_small}
+use Rattle.uprog_gen.proofs.Common.{◌≡◌, ◌∙◌, ◌≤◌, ap, map, length, refl, arith, take_all, Param}
+use Rattle.uprog_gen.proofs.Common.{operation, scratch_is_small}
 use Rattle.uprog_gen.proofs.head.head_of.Goals as goal
 
 pub overflow_cast-result : goal.overflow_cast-result

@@ -1,5 +1,4 @@
-use Rattle.std.proofs.Common.{◌≡◌, map, take}
-use Rattle.op_text.specs.declared.tree.Param.{Param}
+use Rattle.uprog_gen.proofs.Common.{◌≡◌, map, take, Param}
 use Rattle.uprog_gen.proofs.head.head_of.Given as goal
 
 abbrev pub invariant-loop-param : goal.invariant-loop-param

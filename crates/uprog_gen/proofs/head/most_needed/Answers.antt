@@ -1,7 +1,5 @@
-use Rattle.std.proofs.Common.{sym, ap, map, ◌∙◌}
-use Rattle.std.proofs.lemmas.List.{take_all}
-use Rattle.op_text.specs.Language.{statement}
-use Rattle.op_text.specs.Scratch.{bits_inside, words_inside, need_inside, greatest}
+use Rattle.uprog_gen.proofs.Common.{sym, ap, map, ◌∙◌, take_all, statement, bits_inside}
+use Rattle.uprog_gen.proofs.Common.{words_inside, need_inside, greatest}
 use Rattle.uprog_gen.proofs.Meaning.Needs.{need_more}
 use Rattle.uprog_gen.proofs.head.most_needed.Goals as goal
 

@@ -1,6 +1,5 @@
-use Rattle.std.proofs.Common.{◌≡◌, map, take}
-use Rattle.op_text.specs.Language.{statement}
-use Rattle.op_text.specs.Scratch.{bits_inside, words_inside, need_inside, greatest}
+use Rattle.uprog_gen.proofs.Common.{◌≡◌, map, take, statement, bits_inside, words_inside}
+use Rattle.uprog_gen.proofs.Common.{need_inside, greatest}
 use Rattle.uprog_gen.proofs.head.most_needed.Given as goal
 
 abbrev pub invariant-loop-s : goal.invariant-loop-s

@@ -1,6 +1,5 @@
-use Rattle.std.proofs.Common.{◌≡◌, refl, sym, ap, length, arith}
-use Rattle.std.proofs.lemmas.List.{length-map}
-use Rattle.op_text.specs.Language.{operation, statement}
+use Rattle.uprog_gen.proofs.Common.{◌≡◌, refl, sym, ap, length, arith, length-map, operation}
+use Rattle.uprog_gen.proofs.Common.{statement}
 use Rattle.uprog_gen.proofs.Naming.LaidOut.{laid_knows, laid_bits, laid_words, laid_more, laid_all}
 use Rattle.uprog_gen.proofs.Naming.LaidOut.{statement_short, body_more}
 use Rattle.uprog_gen.proofs.layout.lay_out.Goals as goal

@@ -1,4 +1,4 @@
-use Rattle.op_text.specs.Language.{operation}
+use Rattle.uprog_gen.proofs.Common.{operation}
 use Rattle.uprog_gen.proofs.Naming.LaidOut.{IsLaidTo}
 use Rattle.uprog_gen.proofs.layout.lay_out.Given as goal
 

@@ -1,4 +1,4 @@
-use Rattle.std.proofs.Common.{take}
+use Rattle.uprog_gen.proofs.Common.{take}
 use Rattle.uprog_gen.specs.Laying.{LaysSources}
 use Rattle.uprog_gen.proofs.layout.place_sources.Given as goal
 

@@ -1,8 +1,5 @@
-use Rattle.std.proofs.Common.{[], ◌∷◌, ap, ◌∙◌, subst}
-use Rattle.std.proofs.lemmas.Result.{on_ok_weaker}
-use Rattle.op_text.specs.Language.{operation, result_names}
-use Rattle.op_text.specs.Rules.{second_of}
-use Rattle.op_text.specs.Scratch.{param, result_kind}
+use Rattle.uprog_gen.proofs.Common.{[], ◌∷◌, ap, ◌∙◌, subst, on_ok_weaker, operation, result_names}
+use Rattle.uprog_gen.proofs.Common.{second_of, param, result_kind}
 use Rattle.uprog_gen.specs.Laying.{Lays}
 use Rattle.uprog_gen.proofs.Naming.Placed.{block_lays, lays_then}
 use Rattle.uprog_gen.proofs.layout.place_statement.Goals as goal

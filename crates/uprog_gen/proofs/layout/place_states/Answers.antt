@@ -1,8 +1,5 @@
-use Rattle.std.proofs.Common.{[], ◌∷◌, take, sym, subst, arith}
-use Rattle.op_text.specs.declared.tree.Kind.TheVariants.{Bit}
-use Rattle.op_text.specs.declared.tree.Param.{Param}
-use Rattle.op_text.specs.Scratch.{param}
-use Rattle.op_text.specs.Language.{operation, result_names}
+use Rattle.uprog_gen.proofs.Common.{[], ◌∷◌, take, sym, subst, arith, Bit, Param, param, operation}
+use Rattle.uprog_gen.proofs.Common.{result_names}
 use Rattle.uprog_gen.specs.Laying.{Lays, states_defined}
 use Rattle.uprog_gen.proofs.Naming.Placed.{lays_then, states_more, one_name, states_no_words}
 use Rattle.uprog_gen.proofs.layout.place_states.Goals as goal

@@ -1,5 +1,4 @@
-use Rattle.std.proofs.Common.{◌+◌, ◌≤◌, ◌≡◌, take}
-use Rattle.op_text.specs.Language.{operation, result_names}
+use Rattle.uprog_gen.proofs.Common.{◌+◌, ◌≤◌, ◌≡◌, take, operation, result_names}
 use Rattle.uprog_gen.specs.Laying.{Lays, states_defined}
 use Rattle.uprog_gen.proofs.layout.place_states.Given as goal
 

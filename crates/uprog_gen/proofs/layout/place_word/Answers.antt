@@ -1,6 +1,5 @@
-use Rattle.std.proofs.Common.{◌∙◌, sym, subst}
+use Rattle.uprog_gen.proofs.Common.{◌∙◌, sym, subst, operation, result_names}
 use Rattle.std.specs.Prelude.{OnOk}
-use Rattle.op_text.specs.Language.{operation, result_names}
 use Rattle.uprog_gen.specs.Laying.{Lays}
 use Rattle.uprog_gen.proofs.Naming.Placed.{lays_none, no_word, a_word}
 use Rattle.uprog_gen.proofs.layout.place_word.Goals as goal

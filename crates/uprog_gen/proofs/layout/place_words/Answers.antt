@@ -1,6 +1,4 @@
-use Rattle.std.proofs.Common.{[], ◌∷◌, take, sym, subst, arith}
-use Rattle.op_text.specs.declared.tree.Kind.TheVariants.{Word}
-use Rattle.op_text.specs.Language.{operation, result_names}
+use Rattle.uprog_gen.proofs.Common.{[], ◌∷◌, take, sym, subst, arith, Word, operation, result_names}
 use Rattle.uprog_gen.specs.Laying.{Lays, words_defined}
 use Rattle.uprog_gen.proofs.Naming.Placed.{lays_then, words_more, one_word, words_no_bits}
 use Rattle.uprog_gen.proofs.layout.place_words.Goals as goal

@@ -1,7 +1,5 @@
-use Rattle.std.proofs.Common.{[], map, refl, ap}
-use Rattle.op_text.specs.Language.{operation}
-use Rattle.loop_ir.specs.Plain.{flow_of, steps_of}
-use Rattle.loop_ir.specs.Statements.{slots_of}
+use Rattle.uprog_gen.proofs.Common.{[], map, refl, ap, operation, flow_of, slots_of}
+use Rattle.loop_ir.specs.Plain.{steps_of}
 use Rattle.uprog_gen.proofs.Naming.StageAt.{statement_ready, fronts_more}
 use Rattle.uprog_gen.proofs.lowering.lower.Goals as goal
 

@@ -1,7 +1,4 @@
-use Rattle.std.proofs.Common.{map, take}
-use Rattle.op_text.specs.Language.{operation}
-use Rattle.loop_ir.specs.Plain.{flow_of}
-use Rattle.loop_ir.specs.Statements.{slots_of}
+use Rattle.uprog_gen.proofs.Common.{map, take, operation, flow_of, slots_of}
 use Rattle.uprog_gen.specs.Entries.{AreFronts}
 use Rattle.uprog_gen.proofs.lowering.lower.Given as goal
 

@@ -1,8 +1,5 @@
-use Rattle.std.proofs.Common.{◌≤◌, map, length, subst, arith}
-use Rattle.std.proofs.lemmas.List.{take_all}
-use Rattle.op_text.specs.Language.{operation}
-use Rattle.op_rules.specs.Meets.{OperationMeets}
-use Rattle.uprog_code.specs.Shape.{microprogram_of}
+use Rattle.uprog_gen.proofs.Common.{◌≤◌, map, length, subst, arith, take_all, operation}
+use Rattle.uprog_gen.proofs.Common.{OperationMeets, microprogram_of}
 use Rattle.uprog_gen.specs.Programs.{AreCompiled}
 use Rattle.uprog_gen.specs.Graphs.{graphed_of, AreGraphed}
 use Rattle.uprog_gen.proofs.Meaning.Entries.{op_at, compiled_more}

@@ -1,6 +1,4 @@
-use Rattle.std.proofs.Common.{map, take}
-use Rattle.op_text.specs.Language.{operation}
-use Rattle.uprog_code.specs.Shape.{microprogram_of}
+use Rattle.uprog_gen.proofs.Common.{map, take, operation, microprogram_of}
 use Rattle.uprog_gen.specs.Programs.{AreCompiled}
 use Rattle.uprog_gen.specs.Graphs.{graphed_of, AreGraphed}
 use Rattle.uprog_gen.proofs.ops.compile_each.Given as goal

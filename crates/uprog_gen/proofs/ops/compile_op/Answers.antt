@@ -1,10 +1,5 @@
-use Rattle.std.proofs.Common.{map, length, sym, ap, ◌∙◌, subst, arith}
-use Rattle.std.proofs.lemmas.List.{length-map}
-use Rattle.op_text.specs.Language.{operation}
-use Rattle.uprog_code.specs.declared.code.Head.{Head}
-use Rattle.uprog_code.specs.Shape.{shape_of, microprogram_of}
-use Rattle.loop_ir.specs.Plain.{flow_of}
-use Rattle.loop_ir.specs.Statements.{slots_of}
+use Rattle.uprog_gen.proofs.Common.{map, length, sym, ap, ◌∙◌, subst, arith, length-map, operation}
+use Rattle.uprog_gen.proofs.Common.{Head, shape_of, microprogram_of, flow_of, slots_of}
 use Rattle.uprog_gen.specs.Entries.{IsCodeOf}
 use Rattle.uprog_gen.specs.Graphs.{graphs_in, IsGraphed}
 use Rattle.uprog_gen.proofs.Meaning.Entries.{flows_small, flows_short, flows_few, entry_coded}

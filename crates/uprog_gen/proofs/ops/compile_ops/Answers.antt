@@ -1,6 +1,5 @@
-use Rattle.std.proofs.Common.{map}
+use Rattle.uprog_gen.proofs.Common.{map, operation}
 use Rattle.std.proofs.lemmas.Result.{IfOk-weaker}
-use Rattle.op_text.specs.Language.{operation}
 use Rattle.uprog_code.specs.Shape.{microprograms_of}
 use Rattle.uprog_gen.proofs.Meaning.Entries.{compiled_implement, compiled_program}
 use Rattle.uprog_gen.proofs.Costs.Blocks.{compiled_exact}

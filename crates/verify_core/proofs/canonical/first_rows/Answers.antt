@@ -1,7 +1,5 @@
-use Rattle.std.proofs.Common.{◌≡◌, ◌∙◌, ◌+◌, ◌*◌, ◌<◌, ◌≤◌, ℕ, zero, suc, List, [], ◌∷◌, ◌++◌, length, take, refl, ap, arith, sym}
-use Rattle.std.proofs.lemmas.List.{length-take}
-use Rattle.op_text.specs.declared.tree.Kind.{Kind}
-use Rattle.binding_laws.specs.Canonical.{bases}
+use Rattle.verify_core.proofs.Common.{◌≡◌, ◌∙◌, ◌+◌, take, ap, arith, sym, length-take, Kind, bases}
+use Rattle.std.proofs.Common.{◌*◌, ◌<◌, ◌≤◌, ℕ, zero, suc, List, [], ◌∷◌, ◌++◌, length, refl}
 use Rattle.verify_core.proofs.canonical.first_rows.Goals as goal
 
 long : (n s : ℕ) (ks : List Kind) → length (bases n s ks) ≡ length ks

@@ -1,5 +1,5 @@
-use Rattle.std.proofs.Common.{◌≡◌, ◌+◌, ◌*◌, take}
-use Rattle.binding_laws.specs.Canonical.{bases}
+use Rattle.verify_core.proofs.Common.{◌≡◌, ◌+◌, take, bases}
+use Rattle.std.proofs.Common.{◌*◌}
 use Rattle.verify_core.proofs.canonical.first_rows.Given as goal
 
 abbrev pub invariant-loop-kind : goal.invariant-loop-kind

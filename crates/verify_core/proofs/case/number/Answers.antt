@@ -1,13 +1,8 @@
-use Rattle.std.proofs.Common.{◌≡◌, ◌∙◌, ◌+◌, ◌-◌, ◌<◌, ◌≤◌, ◌^◌, ℕ, Bool, List, ap, arith, length, map}
-use Rattle.std.specs.List.{range_with_len}
-use Rattle.bit_rows.specs.Bits.{bit_number, value}
-use Rattle.dram_model.specs.declared.address.Cell.{Cell}
-use Rattle.dram_model.specs.declared.address.Cell.TheVariants.{D}
-use Rattle.bdd.specs.declared.Edge.{Edge}
-use Rattle.bdd.specs.declared.Node.{Node}
+use Rattle.verify_core.proofs.Common.{◌≡◌, ◌∙◌, ◌+◌, ap, arith, range_with_len, bit_number, Cell, D}
+use Rattle.verify_core.proofs.Common.{Edge, Node, assigned, AreCells, Cells, column_of, edge_at}
+use Rattle.std.proofs.Common.{◌-◌, ◌<◌, ◌≤◌, ◌^◌, ℕ, Bool, List, length, map}
+use Rattle.bit_rows.specs.Bits.{value}
 use Rattle.bdd.specs.Graphs.{value as value_of}
-use Rattle.bdd.specs.Paths.{assigned}
-use Rattle.symbolic_column.specs.Symbols.{AreCells, Cells, column_of, edge_at}
 use Rattle.verify_core.proofs.Steps.{number-more, number-small}
 use Rattle.verify_core.proofs.case.number.Goals as goal
 

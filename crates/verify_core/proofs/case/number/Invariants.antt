@@ -1,9 +1,6 @@
-use Rattle.std.proofs.Common.{◌≡◌, ◌+◌, ◌-◌, ◌≤◌, map}
-use Rattle.std.specs.List.{range_with_len}
-use Rattle.dram_model.specs.declared.address.Cell.TheVariants.{D}
+use Rattle.verify_core.proofs.Common.{◌≡◌, ◌+◌, range_with_len, D, assigned, column_of}
+use Rattle.std.proofs.Common.{◌-◌, ◌≤◌, map}
 use Rattle.bit_rows.specs.Bits.{value}
-use Rattle.bdd.specs.Paths.{assigned}
-use Rattle.symbolic_column.specs.Symbols.{column_of}
 use Rattle.verify_core.proofs.case.number.Given as goal
 
 -- the number of the rows that were read, the highest first

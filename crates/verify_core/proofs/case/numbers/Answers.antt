@@ -1,7 +1,4 @@
-use Rattle.std.proofs.Common.{◌∙◌, arith}
-use Rattle.op_text.specs.declared.tree.Kind.TheVariants.{Word}
-use Rattle.bdd.specs.Paths.{assigned}
-use Rattle.symbolic_column.specs.Symbols.{column_of}
+use Rattle.verify_core.proofs.Common.{◌∙◌, arith, Word, assigned, column_of}
 use Rattle.verify_core.proofs.Steps.{numbers-next}
 use Rattle.verify_core.proofs.case.numbers.Goals as goal
 

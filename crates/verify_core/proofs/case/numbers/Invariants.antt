@@ -1,8 +1,5 @@
-use Rattle.std.proofs.Common.{◌≡◌, ◌+◌, ◌*◌, take}
-use Rattle.uprog_code.specs.Implements.{numbers}
-use Rattle.bdd.specs.Paths.{assigned}
-use Rattle.symbolic_column.specs.Symbols.{column_of}
-use Rattle.binding_laws.specs.Canonical.{bases}
+use Rattle.verify_core.proofs.Common.{◌≡◌, ◌+◌, take, numbers, assigned, column_of, bases}
+use Rattle.std.proofs.Common.{◌*◌}
 use Rattle.verify_core.proofs.case.numbers.Given as goal
 
 abbrev pub invariant-loop-kind : goal.invariant-loop-kind

@@ -1,8 +1,5 @@
-use Rattle.std.proofs.Common.{◌≡◌, List, ap, arith, length}
-use Rattle.op_text.specs.declared.tree.Kind.{Kind}
-use Rattle.uprog_code.specs.Shape.{shape_of}
-use Rattle.bdd.specs.Paths.{assigned}
-use Rattle.symbolic_column.specs.Symbols.{column_of}
+use Rattle.verify_core.proofs.Common.{◌≡◌, ap, arith, Kind, shape_of, assigned, column_of}
+use Rattle.std.proofs.Common.{List, length}
 use Rattle.verify_core.proofs.Ones.{work-ones}
 use Rattle.verify_core.proofs.case.ones.Goals as goal
 

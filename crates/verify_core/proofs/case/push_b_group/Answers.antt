@@ -1,6 +1,4 @@
-use Rattle.dram_model.specs.declared.address.Cell.TheVariants.{T, Dcc}
-use Rattle.bdd.specs.Paths.{assigned}
-use Rattle.symbolic_column.specs.Symbols.{column_of}
+use Rattle.verify_core.proofs.Common.{T, Dcc, assigned, column_of}
 use Rattle.verify_core.proofs.Ones.{six-ones}
 use Rattle.verify_core.proofs.case.push_b_group.Goals as goal
 

@@ -1,5 +1,4 @@
-use Rattle.bdd.specs.Paths.{assigned}
-use Rattle.symbolic_column.specs.Symbols.{column_of}
+use Rattle.verify_core.proofs.Common.{assigned, column_of}
 use Rattle.verify_core.proofs.Ones.{rows-more}
 use Rattle.verify_core.proofs.case.push_rows.Goals as goal
 

@@ -1,9 +1,5 @@
-use Rattle.std.proofs.Common.{◌≡◌, ◌++◌, map}
-use Rattle.std.specs.Prelude.{filter}
-use Rattle.std.specs.List.{range_with_len}
-use Rattle.dram_model.specs.declared.address.Cell.TheVariants.{D}
-use Rattle.bdd.specs.Paths.{assigned}
-use Rattle.symbolic_column.specs.Symbols.{column_of}
+use Rattle.verify_core.proofs.Common.{◌≡◌, filter, range_with_len, D, assigned, column_of}
+use Rattle.std.proofs.Common.{◌++◌, map}
 use Rattle.verify_core.proofs.case.push_rows.Given as goal
 
 abbrev pub invariant-loop-k : goal.invariant-loop-k

@@ -1,7 +1,4 @@
-use Rattle.uprog_code.specs.Shape.{shape_of}
-use Rattle.uprog_code.specs.Machine.{issues_of, trace}
-use Rattle.uprog_code.proofs.Kept.{trace_good}
-use Rattle.bdd.specs.declared.Edge.{Edge}
+use Rattle.verify_core.proofs.Common.{shape_of, issues_of, trace, trace_good, Edge}
 use Rattle.verify_core.specs.SymbolicRuns.{ResultsAgree, ResultsDiffer}
 use Rattle.verify_core.proofs.Cases.{case-fails, case-right}
 use Rattle.verify_core.proofs.Results.{said, said-some}

@@ -1,13 +1,7 @@
-use Rattle.std.proofs.Common.{◌≡◌, ◌∙◌, ◌+◌, ◌<◌, ℕ, Bool, true, false, refl, sym, arith, below_more, List, length}
-use Rattle.std.proofs.lemmas.Bool.{false≢true}
-use Rattle.dram_model.specs.declared.address.Cell.TheVariants.{D}
-use Rattle.bit_rows.specs.Bits.{flip_if}
-use Rattle.bdd.specs.declared.Edge.{Edge}
-use Rattle.bdd.specs.declared.Node.{Node}
-use Rattle.bdd.specs.Edges.{constant}
-use Rattle.bdd.specs.Graphs.{AreNodes, Keeps, value}
-use Rattle.bdd.proofs.Laws.{keeps-both, value-kept, value-zero}
-use Rattle.symbolic_column.specs.Symbols.{edge_at, column_of, AreCells, Cells}
+use Rattle.verify_core.proofs.Common.{◌≡◌, ◌∙◌, ◌+◌, sym, arith, below_more, false≢true, D, flip_if}
+use Rattle.verify_core.proofs.Common.{Edge, Node, constant, AreNodes, Keeps, value, keeps-both}
+use Rattle.verify_core.proofs.Common.{value-kept, value-zero, edge_at, column_of, AreCells, Cells}
+use Rattle.std.proofs.Common.{◌<◌, ℕ, Bool, true, false, refl, List, length}
 use Rattle.verify_core.proofs.compare.first_difference.Goals as goal
 
 named-at : (x y : List Node) (s : Cells) (row : ℕ) (e : Edge) → AreCells x s → Keeps x y

@@ -1,7 +1,5 @@
-use Rattle.std.proofs.Common.{◌≡◌, ◌+◌, ◌<◌, ℕ, Bool}
-use Rattle.dram_model.specs.declared.address.Cell.TheVariants.{D}
-use Rattle.bdd.specs.Graphs.{AreNodes, Keeps}
-use Rattle.symbolic_column.specs.Symbols.{column_of}
+use Rattle.verify_core.proofs.Common.{◌≡◌, ◌+◌, D, AreNodes, Keeps, column_of}
+use Rattle.std.proofs.Common.{◌<◌, ℕ, Bool}
 use Rattle.verify_core.proofs.compare.first_difference.Given as goal
 
 abbrev pub invariant-loop-k : goal.invariant-loop-k

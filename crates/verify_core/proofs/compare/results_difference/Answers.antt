@@ -1,8 +1,5 @@
-use Rattle.std.proofs.Common.{◌≡◌, ◌+◌, ◌<◌, ℕ, Bool, true}
-use Rattle.dram_model.specs.declared.address.Cell.TheVariants.{D}
-use Rattle.uprog_code.specs.Shape.{shape_of}
-use Rattle.uprog_code.specs.Machine.{in_kind}
-use Rattle.symbolic_column.specs.Symbols.{column_of}
+use Rattle.verify_core.proofs.Common.{◌≡◌, ◌+◌, D, shape_of, in_kind, column_of}
+use Rattle.std.proofs.Common.{◌<◌, ℕ, Bool, true}
 use Rattle.verify_core.specs.SymbolicRuns.{IsDifference, ResultsAgree, ResultsDiffer}
 use Rattle.verify_core.proofs.Results.{agree-from, both-agree, difference-from, none-map, said}
 use Rattle.verify_core.proofs.Results.{second-differs, some-map}

@@ -1,7 +1,5 @@
-use Rattle.std.proofs.Common.{◌≡◌, ℕ, List}
-use Rattle.uprog_code.specs.Machine.{issues_of, trace}
-use Rattle.uprog_code.specs.Implements.{Gives}
-use Rattle.bdd.specs.Graphs.{AreNodes}
+use Rattle.verify_core.proofs.Common.{◌≡◌, issues_of, trace, Gives, AreNodes}
+use Rattle.std.proofs.Common.{ℕ, List}
 use Rattle.verify_core.specs.Verdicts.{Fails}
 use Rattle.verify_core.proofs.last.fewer_ones.Given as goal
 

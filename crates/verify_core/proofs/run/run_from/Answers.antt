@@ -1,8 +1,6 @@
-use Rattle.std.proofs.Common.{ap, refl, length, arith}
-use Rattle.uprog_code.specs.Shape.{shape_of}
-use Rattle.uprog_code.specs.Machine.{issues_of, trace}
+use Rattle.verify_core.proofs.Common.{ap, arith, shape_of, issues_of, trace, result_rows}
+use Rattle.std.proofs.Common.{refl, length}
 use Rattle.uprog_code.specs.Bound.{bound_of}
-use Rattle.binding_laws.specs.Canonical.{result_rows}
 use Rattle.verify_core.proofs.Ran.{fits-by, ran-by}
 use Rattle.verify_core.proofs.run.run_from.Goals as goal
 

@@ -1,9 +1,6 @@
-use Rattle.std.proofs.Common.{◌≡◌, ◌∙◌, ℕ, Bool, true, false, sym, subst, List, refl}
-use Rattle.bit_rows.specs.Bits.{flip_if}
-use Rattle.bdd.specs.declared.Node.{Node}
-use Rattle.bdd.specs.Edges.{constant}
-use Rattle.bdd.specs.Graphs.{AreNodes, value}
-use Rattle.bdd.proofs.Laws.{value-zero}
+use Rattle.verify_core.proofs.Common.{◌≡◌, ◌∙◌, sym, subst, flip_if, Node, constant, AreNodes}
+use Rattle.verify_core.proofs.Common.{value, value-zero}
+use Rattle.std.proofs.Common.{ℕ, Bool, true, false, List, refl}
 use Rattle.verify_core.specs.declared.start.Begin.{Begin}
 use Rattle.verify_core.specs.Starts.{IsMeant}
 use Rattle.verify_core.proofs.start.held.Goals as goal

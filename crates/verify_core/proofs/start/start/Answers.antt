@@ -1,9 +1,7 @@
-use Rattle.std.proofs.Common.{◌≡◌, ◌≢◌, ◌∙◌, ◌+◌, ◌<◌, ℕ, Bool, refl, ap, arith, eq-eqb, below_more}
+use Rattle.verify_core.proofs.Common.{◌≡◌, ◌∙◌, ◌+◌, ap, arith, below_more, T, Dcc, D, value}
+use Rattle.verify_core.proofs.Common.{keeps-both, edge_at}
+use Rattle.std.proofs.Common.{◌≢◌, ◌<◌, ℕ, Bool, refl, eq-eqb}
 use Rattle.std.proofs.lemmas.Bool.{ne_eqb}
-use Rattle.dram_model.specs.declared.address.Cell.TheVariants.{T, Dcc, D}
-use Rattle.bdd.specs.Graphs.{value}
-use Rattle.bdd.proofs.Laws.{keeps-both}
-use Rattle.symbolic_column.specs.Symbols.{edge_at}
 use Rattle.verify_core.specs.Starts.{IsMeant, row_variable}
 use Rattle.verify_core.proofs.start.start.Goals as goal
 

@@ -1,7 +1,6 @@
-use Rattle.std.proofs.Common.{◌≡◌, ◌+◌, ◌<◌, ℕ, Bool, length}
-use Rattle.dram_model.specs.declared.address.Cell.TheVariants.{T, Dcc, D}
-use Rattle.bdd.specs.Graphs.{AreNodes, Keeps, value}
-use Rattle.symbolic_column.specs.Symbols.{edge_at, AreCells}
+use Rattle.verify_core.proofs.Common.{◌≡◌, ◌+◌, T, Dcc, D, AreNodes, Keeps, value, edge_at}
+use Rattle.verify_core.proofs.Common.{AreCells}
+use Rattle.std.proofs.Common.{◌<◌, ℕ, Bool, length}
 use Rattle.verify_core.specs.Starts.{IsMeant, row_variable}
 use Rattle.verify_core.proofs.start.start.Given as goal
 

@@ -1,8 +1,4 @@
-use Rattle.std.proofs.Common.{◌∙◌, sym}
-use Rattle.uprog_code.specs.Shape.{shape_of}
-use Rattle.uprog_code.specs.Machine.{issues_of, trace}
-use Rattle.uprog_code.proofs.Kept.{trace_good}
-use Rattle.bdd.specs.Paths.{assigned}
+use Rattle.verify_core.proofs.Common.{◌∙◌, sym, shape_of, issues_of, trace, trace_good, assigned}
 use Rattle.verify_core.specs.declared.start.Begin.TheVariants.{Values}
 use Rattle.verify_core.proofs.Cases.{tried-fails}
 use Rattle.verify_core.proofs.tries.case_under.Goals as goal

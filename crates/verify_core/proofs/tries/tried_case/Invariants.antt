@@ -1,5 +1,4 @@
-use Rattle.std.proofs.Common.{◌≡◌}
-use Rattle.bdd.specs.Graphs.{AreNodes}
+use Rattle.verify_core.proofs.Common.{◌≡◌, AreNodes}
 use Rattle.verify_core.proofs.tries.tried_case.Given as goal
 
 abbrev pub invariant-loop-k : goal.invariant-loop-k

@@ -1,4 +1,4 @@
-use Rattle.std.proofs.Common.{◌∙◌, sym}
+use Rattle.verify_core.proofs.Common.{◌∙◌, sym}
 use Rattle.verify_core.proofs.KindLists.{kinds-same, kinds-self}
 use Rattle.verify_core.proofs.verdict.are_same.Goals as goal
 

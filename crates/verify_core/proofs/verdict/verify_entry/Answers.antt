@@ -1,7 +1,5 @@
-use Rattle.std.proofs.Common.{◌∙◌, ℕ, List, sym}
-use Rattle.uprog_code.specs.Shape.{shape_of}
-use Rattle.uprog_code.specs.Machine.{issues_of, trace}
-use Rattle.uprog_code.specs.Implements.{Gives}
+use Rattle.verify_core.proofs.Common.{◌∙◌, sym, shape_of, issues_of, trace, Gives}
+use Rattle.std.proofs.Common.{ℕ, List}
 use Rattle.verify_core.proofs.Results.{said}
 use Rattle.verify_core.proofs.Says.{is-right, kinds-by}
 use Rattle.verify_core.proofs.verdict.verify_entry.Goals as goal

@@ -1,9 +1,7 @@
-use Rattle.std.proofs.Common.{◌++◌, ap, ◌∙◌, sym, get_or}
+use Rattle.width_entry.proofs.Common.{◌++◌, ap, ◌∙◌, sym, get_or, Issued, issue_of}
 use Rattle.uprog_code.specs.declared.code.RowSpace.TheVariants.{B}
 use Rattle.uprog_code.specs.declared.registers.Issued.TheVariants.{Aap}
-use Rattle.uprog_code.specs.declared.registers.Issued.{Issued}
 use Rattle.uprog_code.specs.declared.registers.RowPosition.{RowPosition}
-use Rattle.uprog_code.specs.OneStep.{issue_of}
 use Rattle.width_entry.specs.Code.{command_code}
 use Rattle.width_entry.proofs.Named.{one_more}
 use Rattle.width_entry.proofs.code.line_code.Goals as goal

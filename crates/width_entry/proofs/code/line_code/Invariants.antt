@@ -1,4 +1,4 @@
-use Rattle.std.proofs.Common.{◌≡◌, take}
+use Rattle.width_entry.proofs.Common.{◌≡◌, take}
 use Rattle.width_entry.specs.Lines.{issues}
 use Rattle.width_entry.specs.Code.{line_code}
 use Rattle.width_entry.proofs.code.line_code.Given as goal

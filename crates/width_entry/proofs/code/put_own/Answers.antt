@@ -1,6 +1,5 @@
-use Rattle.std.proofs.Common.{◌++◌, ap, ◌∙◌, sym, length, map, take, ◌∷◌, []}
-use Rattle.std.proofs.lemmas.List.{append_assoc}
-use Rattle.uprog_code.proofs.Steps.{legal_operands}
+use Rattle.width_entry.proofs.Common.{◌++◌, ap, ◌∙◌, sym, length, map, take, ◌∷◌, [], append_assoc}
+use Rattle.width_entry.proofs.Common.{legal_operands}
 use Rattle.width_entry.specs.Code.{moved_uop}
 use Rattle.width_entry.proofs.Own.{one_more}
 use Rattle.width_entry.proofs.code.put_own.Goals as goal

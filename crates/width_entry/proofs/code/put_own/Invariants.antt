@@ -1,4 +1,4 @@
-use Rattle.std.proofs.Common.{◌≡◌, ◌++◌, map, take}
+use Rattle.width_entry.proofs.Common.{◌≡◌, ◌++◌, map, take}
 use Rattle.width_entry.specs.Code.{moved_uop}
 use Rattle.width_entry.proofs.code.put_own.Given as goal
 

@@ -1,8 +1,5 @@
-use Rattle.std.proofs.Common.{◌≡◌, ◌+◌, ◌≤◌, ◌<◌, List, length, sym, ap, ◌∙◌, arith}
-use Rattle.std.specs.Prelude.{◌^◌}
-use Rattle.std.proofs.lemmas.Bool.{false≢true}
-use Rattle.uprog_code.specs.declared.code.Uop.{Uop}
-use Rattle.uprog_code.specs.Shape.{Microprogram, Shape, shape_of}
+use Rattle.width_entry.proofs.Common.{◌≡◌, ◌+◌, ◌≤◌, ◌<◌, List, length, sym, ap, ◌∙◌, arith, ◌^◌}
+use Rattle.width_entry.proofs.Common.{false≢true, Uop, Microprogram, Shape, shape_of}
 use Rattle.width_entry.specs.Lines.{AreNameable, first_unnamed, issues}
 use Rattle.width_entry.specs.Code.{behind, line_code}
 use Rattle.width_entry.proofs.Lines.{line_room_is}

@@ -1,13 +1,10 @@
-use Rattle.std.proofs.Common.{◌≡◌, ◌+◌, ◌-◌, ◌<◌, length, sym, ap, ◌∙◌, subst, arith, Ok}
-use Rattle.std.proofs.lemmas.Bool.{false≢true}
-use Rattle.uprog_code.specs.declared.TheConstants.{WALK_MAX}
+use Rattle.width_entry.proofs.Common.{◌≡◌, ◌+◌, ◌-◌, ◌<◌, length, sym, ap, ◌∙◌, subst, arith}
+use Rattle.width_entry.proofs.Common.{false≢true, WALK_MAX, Budget, shape_of, issue, onto, start}
+use Rattle.width_entry.proofs.Common.{trace, turn_trace, legal_operands, trace_is, some_first}
+use Rattle.std.proofs.Common.{Ok}
 use Rattle.uprog_code.specs.declared.registers.Turn.TheVariants.{Over}
-use Rattle.uprog_code.specs.declared.walker.Why3.TheVariants.{Budget}
-use Rattle.uprog_code.specs.Shape.{shape_of}
-use Rattle.uprog_code.specs.Machine.{issue, onto, start, trace}
-use Rattle.uprog_code.specs.OneStep.{turn_trace, issues_by}
-use Rattle.uprog_code.proofs.Steps.{legal_operands, trace_is, no_more, start_registers, goes_on}
-use Rattle.uprog_code.proofs.Steps.{not_last, place_in, some_first}
+use Rattle.uprog_code.specs.OneStep.{issues_by}
+use Rattle.uprog_code.proofs.Steps.{no_more, start_registers, goes_on, not_last, place_in}
 use Rattle.width_entry.specs.Lines.{issues}
 use Rattle.width_entry.proofs.Whole.{never_stuck, onto_both, onto_end, onto_nil, step_from}
 use Rattle.width_entry.proofs.line.issued_line.Goals as goal

@@ -1,6 +1,4 @@
-use Rattle.std.proofs.Common.{◌≡◌, ◌-◌, ◌<◌, length}
-use Rattle.uprog_code.specs.declared.TheConstants.{WALK_MAX}
-use Rattle.uprog_code.specs.Machine.{issue, onto, trace}
+use Rattle.width_entry.proofs.Common.{◌≡◌, ◌-◌, ◌<◌, length, WALK_MAX, issue, onto, trace}
 use Rattle.uprog_code.specs.OneStep.{AreRegisters}
 use Rattle.width_entry.specs.Lines.{issues}
 use Rattle.width_entry.proofs.line.issued_line.Given as goal

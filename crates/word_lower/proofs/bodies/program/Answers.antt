@@ -1,4 +1,4 @@
-use Rattle.std.proofs.Common.{slice_index_or, sym, ap, ◌++◌, ◌∷◌, [], ◌∙◌, refl, None}
+use Rattle.word_lower.proofs.Common.{slice_index_or, sym, ap, ◌++◌, ◌∷◌, [], ◌∙◌, refl, None}
 use Rattle.word_lower.specs.Places.{slot_at, program_on}
 use Rattle.word_lower.specs.Lines.{lines_steps}
 use Rattle.word_lower.proofs.Append.{lines_more}

@@ -1,6 +1,4 @@
-use Rattle.std.proofs.Common.{◌≡◌, map, take}
-use Rattle.loop_ir.specs.Plain.{AllParts, step_of}
-use Rattle.loop_laws.specs.Forms.{IsMade}
+use Rattle.word_lower.proofs.Common.{◌≡◌, map, take, AllParts, step_of, IsMade}
 use Rattle.word_lower.specs.Places.{slot_at, program_on}
 use Rattle.word_lower.specs.Lines.{lines_steps}
 use Rattle.word_lower.proofs.bodies.program.Given as goal

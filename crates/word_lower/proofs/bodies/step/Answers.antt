@@ -1,5 +1,4 @@
-use Rattle.std.proofs.Common.{ap, ◌∷◌, []}
-use Rattle.loop_ir.specs.Plain.StepOf.{Single, Along}
+use Rattle.word_lower.proofs.Common.{ap, ◌∷◌, [], Single, Along}
 use Rattle.word_lower.proofs.bodies.step.Goals as goal
 
 pub returns-in_ok-body-in-Once-clause-same : goal.returns-in_ok-body-in-Once-clause-same

@@ -1,4 +1,4 @@
-use Rattle.std.proofs.Common.{◌≡◌, take}
+use Rattle.word_lower.proofs.Common.{◌≡◌, take}
 use Rattle.word_lower.proofs.graphs.made.Given as goal
 
 -- the nodes so far

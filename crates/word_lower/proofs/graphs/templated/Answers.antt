@@ -1,4 +1,4 @@
-use Rattle.std.proofs.Common.{arith}
+use Rattle.word_lower.proofs.Common.{arith}
 use Rattle.word_lower.proofs.LikeTemplates.{all_below, template_same, template_made}
 use Rattle.word_lower.proofs.Own.{own_graph, own_sorted}
 use Rattle.word_lower.proofs.graphs.templated.Goals as goal

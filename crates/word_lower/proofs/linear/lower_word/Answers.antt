@@ -1,7 +1,5 @@
-use Rattle.std.proofs.Common.{ap, ◌∙◌, ◌≡◌, List}
-use Rattle.loop_ir.specs.declared.names.Slot.{Slot}
+use Rattle.word_lower.proofs.Common.{ap, ◌∙◌, ◌≡◌, List, Slot, slots_of}
 use Rattle.loop_ir.specs.Plain.{steps_of}
-use Rattle.loop_ir.specs.Statements.{slots_of}
 use Rattle.word_lower.specs.Programs.{program}
 use Rattle.word_lower.specs.Places.{slot_at, program_on}
 use Rattle.word_lower.specs.Shapes.{owners_of}

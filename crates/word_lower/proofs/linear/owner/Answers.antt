@@ -1,5 +1,4 @@
-use Rattle.std.proofs.Common.{◌∙◌, sym, arith}
-use Rattle.loop_ir.specs.Statements.{slots_of}
+use Rattle.word_lower.proofs.Common.{◌∙◌, sym, arith, slots_of}
 use Rattle.word_lower.specs.Shapes.{following}
 use Rattle.word_lower.proofs.Owners.{owner_is, after_past}
 use Rattle.word_lower.proofs.linear.owner.Goals as goal

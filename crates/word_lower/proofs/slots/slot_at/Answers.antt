@@ -1,4 +1,4 @@
-use Rattle.std.proofs.Common.{ap, ◌∙◌}
+use Rattle.word_lower.proofs.Common.{ap, ◌∙◌}
 use Rattle.word_lower.specs.Places.{slot_at}
 use Rattle.word_lower.proofs.Listed.{slot_is, slot_none}
 use Rattle.word_lower.proofs.slots.slot_at.Goals as goal

@@ -1,4 +1,4 @@
-use Rattle.std.proofs.Common.{ap, ◌∙◌}
+use Rattle.word_lower.proofs.Common.{ap, ◌∙◌}
 use Rattle.word_lower.specs.Programs.{row_steps}
 use Rattle.word_lower.proofs.table.lines.Goals as goal
 

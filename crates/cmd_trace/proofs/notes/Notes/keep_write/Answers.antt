@@ -1,8 +1,6 @@
-use Rattle.std.proofs.Common.{◌*◌, ◌∙◌, ◌++◌, ap, arith, length}
-use Rattle.bit_rows.specs.Bits.{bits_of_words}
-use Rattle.object_alloc.specs.Bytes.{bytes_of_bits}
+use Rattle.cmd_trace.proofs.Common.{◌*◌, ◌∙◌, ◌++◌, ap, arith, length, bits_of_words, bytes_of_bits}
+use Rattle.cmd_trace.proofs.Common.{Writes, event_head_bytes}
 use Rattle.object_alloc.proofs.Rows.{length-bytes_of_bits}
-use Rattle.trace_model.specs.Spelling.{Writes, event_head_bytes}
 use Rattle.cmd_trace.specs.Tape.{NotesView, kept_on}
 use Rattle.cmd_trace.proofs.Tapes.{over_room}
 use Rattle.cmd_trace.proofs.notes.Notes.keep_write.Goals as goal

@@ -1,6 +1,6 @@
-use Rattle.std.proofs.Common.{◌∙◌, ap, arith}
+use Rattle.cmd_trace.proofs.Common.{◌∙◌, ap, arith, length-drop}
 use Rattle.std.specs.Prelude.{drop}
-use Rattle.std.proofs.lemmas.List.{take_all, length-drop}
+use Rattle.std.proofs.lemmas.List.{take_all}
 use Rattle.cmd_trace.specs.Tape.{kept_in}
 use Rattle.cmd_trace.specs.declared.sizes.TheConstants.{HEAD_BYTES_MAX}
 use Rattle.cmd_trace.proofs.notes.Notes.kept.Goals as goal

@@ -1,9 +1,7 @@
-use Rattle.std.proofs.Common.{◌≡◌, ◌+◌, ◌*◌, ◌-◌, ◌≤◌, ◌++◌, ◌∙◌, length, drop, ap, arith}
-use Rattle.std.proofs.Common.{sym}
-use Rattle.std.specs.Int.{to_le_bytes, w32}
+use Rattle.cmd_trace.proofs.Common.{◌≡◌, ◌+◌, ◌*◌, ◌-◌, ◌≤◌, ◌++◌, ◌∙◌, length, drop, ap, arith}
+use Rattle.cmd_trace.proofs.Common.{sym, to_le_bytes, w32, trace_head}
 use Rattle.std.specs.Vec.{with_items}
 use Rattle.std.proofs.lemmas.List.{with_items_is}
-use Rattle.trace_model.specs.Spelling.{trace_head}
 use Rattle.cmd_trace.specs.Tape.{NotesView, kept_in}
 use Rattle.cmd_trace.specs.declared.sizes.TheConstants.{HEAD_BYTES_MAX}
 use Rattle.cmd_trace.proofs.Places.{head_file, head_kept, put_length}

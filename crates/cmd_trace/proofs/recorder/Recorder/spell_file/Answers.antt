@@ -1,7 +1,4 @@
-use Rattle.std.proofs.Common.{◌∙◌, ◌++◌, ap}
-use Rattle.std.specs.Int.{to_le_bytes, w32}
-use Rattle.dram_model.specs.declared.geometry.Geometry.{Geometry}
-use Rattle.trace_model.specs.Spelling.{trace_head}
+use Rattle.cmd_trace.proofs.Common.{◌∙◌, ◌++◌, ap, to_le_bytes, w32, Geometry, trace_head}
 use Rattle.cmd_trace.specs.Tape.{kept_in}
 use Rattle.cmd_trace.proofs.Reread.{shows_same}
 use Rattle.cmd_trace.proofs.Tapes.{file_of_log}

@@ -1,5 +1,5 @@
+use Rattle.cmd_trace.proofs.Common.{Row}
 use Rattle.dram_model.specs.declared.address.Command.TheVariants.{Aap}
-use Rattle.dram_model.specs.Chip.Event.{Row}
 use Rattle.cmd_trace.proofs.Tapes.{did_recorded, few_kept, same_kept}
 use Rattle.cmd_trace.proofs.recorder.RecorderDram.aap.Goals as goal
 

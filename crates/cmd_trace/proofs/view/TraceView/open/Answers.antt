@@ -1,6 +1,4 @@
-use Rattle.std.proofs.Common.{◌∙◌, ap, subst, arith}
-use Rattle.trace_model.specs.Reading.{trace_in}
-use Rattle.trace_model.proofs.Files.{files_are_exact}
+use Rattle.cmd_trace.proofs.Common.{◌∙◌, ap, subst, arith, trace_in, files_are_exact}
 use Rattle.cmd_trace.specs.Opened.{Answers}
 use Rattle.cmd_trace.proofs.Checking.{is_spelled}
 use Rattle.cmd_trace.proofs.view.TraceView.open.Goals as goal

@@ -1,6 +1,4 @@
-use Rattle.std.proofs.Common.{◌≡◌, true, arith}
-use Rattle.std.proofs.lemmas.List.Elements.{All-push}
-use Rattle.text_lex.specs.Spelled.{fits_name}
+use Rattle.object_alloc.proofs.Common.{◌≡◌, true, arith, All-push, fits_name}
 use Rattle.object_alloc.specs.Listed.{Named}
 use Rattle.object_alloc.proofs.Tables.{IsTable-added}
 use Rattle.object_alloc.proofs.table.Table.add.Goals as goal

@@ -1,6 +1,4 @@
-use Rattle.std.proofs.Common.{◌≡◌, true, arith}
-use Rattle.std.proofs.lemmas.List.Elements.{All-filter}
-use Rattle.text_lex.specs.Spelled.{fits_name}
+use Rattle.object_alloc.proofs.Common.{◌≡◌, true, arith, All-filter, fits_name}
 use Rattle.object_alloc.specs.Listed.{Named}
 use Rattle.object_alloc.proofs.Tables.{IsTable-without}
 use Rattle.object_alloc.proofs.table.Table.remove.Goals as goal

@@ -1,4 +1,4 @@
-use Rattle.std.proofs.Common.{◌≡◌, length}
+use Rattle.optimise_job.proofs.Common.{◌≡◌, length}
 use Rattle.optimise_job.proofs.bank.Bank.roles.Given as goal
 
 -- a span for each source so far

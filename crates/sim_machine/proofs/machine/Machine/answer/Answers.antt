@@ -1,11 +1,7 @@
 use Rattle.sim_machine.specs.Shown.{state_of}
-use Rattle.std.proofs.Common.{◌≡◌, ◌∙◌, ap, refl, subst, sym}
-use Rattle.dram_model.proofs.EventLaws.{Kept-same}
-use Rattle.std.specs.Prelude.{IfOk, OnErr, OnOk}
-use Rattle.transpose_unit.specs.Stopped.{StoppedWithin}
-use Rattle.dram_model.specs.View.{Did}
-use Rattle.bbop_isa.specs.Forms.{Instruction, Fill, Load, view_of}
-use Rattle.object_steps.specs.Objects.{events_alone}
+use Rattle.sim_machine.proofs.Common.{◌≡◌, ◌∙◌, ap, refl, subst, sym, Kept-same, IfOk, OnErr, OnOk}
+use Rattle.sim_machine.proofs.Common.{StoppedWithin, Did, Instruction, Fill, Load, view_of}
+use Rattle.sim_machine.proofs.Common.{events_alone}
 use Rattle.sim_machine.specs.Machine.{geometry_of, operations_by, reply_of, table_in}
 use Rattle.sim_machine.proofs.machine.Machine.answer.Goals as goal
 

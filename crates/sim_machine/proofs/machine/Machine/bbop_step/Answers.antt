@@ -1,6 +1,4 @@
-use Rattle.std.proofs.Common.{ap, map, ◌∙◌}
-use Rattle.std.specs.Prelude.{Err}
-use Rattle.bbop_isa.specs.Forms.{view_of}
+use Rattle.sim_machine.proofs.Common.{ap, map, ◌∙◌, Err, view_of}
 use Rattle.sim_machine.proofs.Alone.{bbop_done, bbop_failed}
 use Rattle.sim_machine.proofs.machine.Machine.bbop_step.Goals as goal
 

@@ -1,6 +1,5 @@
 use Rattle.sim_machine.specs.Shown.{state_of}
-use Rattle.std.proofs.Common.{refl}
-use Rattle.dram_model.proofs.EventLaws.{Kept-same}
+use Rattle.sim_machine.proofs.Common.{refl, Kept-same}
 use Rattle.sim_machine.specs.Machine.{geometry_of, operations_by, table_in}
 use Rattle.sim_machine.proofs.Stepping.{done_alone, nothing_done, unsent_alone}
 use Rattle.sim_machine.proofs.machine.Machine.free_step.Goals as goal

@@ -1,6 +1,5 @@
 use Rattle.sim_machine.specs.Shown.{state_of}
-use Rattle.std.proofs.lemmas.Result.{on_ok_weaker}
-use Rattle.machine_model.specs.Opened.{rows_in_banks}
+use Rattle.sim_machine.proofs.Common.{on_ok_weaker, rows_in_banks}
 use Rattle.sim_machine.proofs.Rows.{image_is}
 use Rattle.sim_machine.proofs.machine.Machine.image_with.Goals as goal
 

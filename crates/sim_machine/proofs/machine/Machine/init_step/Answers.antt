@@ -1,9 +1,6 @@
 use Rattle.sim_machine.specs.Shown.{state_of}
-use Rattle.std.proofs.Common.{◌∙◌, List, ap, arith, refl, subst, sym}
-use Rattle.std.specs.Prelude.{All}
-use Rattle.object_alloc.specs.Listed.{Named, IsTable, limit_of, without}
-use Rattle.object_alloc.specs.Spelling.{IsObject}
-use Rattle.bbop_isa.specs.Forms.{Init}
+use Rattle.sim_machine.proofs.Common.{◌∙◌, List, ap, arith, refl, subst, sym, All, Named, IsTable}
+use Rattle.sim_machine.proofs.Common.{limit_of, without, IsObject, Init}
 use Rattle.sim_machine.specs.Machine.{geometry_of, operations_by, table_in}
 use Rattle.sim_machine.proofs.Stepping.{done_alone, failed_alone, refused_same, undone}
 use Rattle.sim_machine.proofs.Stepping.{unsent_alone}

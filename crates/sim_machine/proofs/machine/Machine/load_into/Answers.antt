@@ -1,10 +1,5 @@
-use Rattle.std.proofs.Common.{◌≡◌, subst}
-use Rattle.std.specs.Prelude.{IfOk, OnOk, OnErr}
-use Rattle.transpose_unit.specs.Stopped.{StoppedWithin}
-use Rattle.dram_model.specs.View.{Did}
-use Rattle.dram_model.specs.Elements.{FailedBelow}
-use Rattle.bbop_isa.specs.Forms.{Load}
-use Rattle.machine_model.specs.Pieces.{Alone}
+use Rattle.sim_machine.proofs.Common.{◌≡◌, subst, IfOk, OnOk, OnErr, StoppedWithin, Did}
+use Rattle.sim_machine.proofs.Common.{FailedBelow, Load, Alone}
 use Rattle.sim_machine.specs.State.{State}
 use Rattle.sim_machine.specs.Machine.{banks_by, events_by, reply_of}
 use Rattle.sim_machine.specs.Shown.{state_of}

@@ -1,4 +1,4 @@
-use Rattle.std.proofs.Common.{arith, refl}
+use Rattle.sim_machine.proofs.Common.{arith, refl}
 use Rattle.sim_machine.proofs.machine.Machine.open.Goals as goal
 
 pub returns-clause-borrow : goal.returns-clause-borrow

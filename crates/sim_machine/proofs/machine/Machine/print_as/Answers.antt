@@ -1,12 +1,6 @@
-use Rattle.std.proofs.Common.{◌≡◌, ◌++◌, None, subst}
-use Rattle.std.specs.Prelude.{IfOk, OnOk, OnErr, IsErrOf}
-use Rattle.host_edge.specs.Views.{Known, AppendsPart}
-use Rattle.dram_model.specs.View.{DidRead}
-use Rattle.dram_model.specs.Elements.{FailedBelow}
-use Rattle.bbop_isa.specs.Forms.{Print}
-use Rattle.machine_model.specs.Refusals.{refusal}
-use Rattle.object_steps.specs.Lines.{DidReadAtMost}
-use Rattle.object_steps.specs.declared.fault.StepFault.TheVariants.{ChipFault, WriteFault}
+use Rattle.sim_machine.proofs.Common.{◌≡◌, ◌++◌, None, subst, IfOk, OnOk, OnErr, IsErrOf, Known}
+use Rattle.sim_machine.proofs.Common.{AppendsPart, DidRead, FailedBelow, Print, refusal}
+use Rattle.sim_machine.proofs.Common.{DidReadAtMost, ChipFault, WriteFault}
 use Rattle.sim_machine.specs.State.{State}
 use Rattle.sim_machine.specs.Machine.{banks_by, geometry_of, line_shown, operations_by, reads_by}
 use Rattle.sim_machine.specs.Machine.{reply_of, table_in}

@@ -1,6 +1,5 @@
 use Rattle.sim_machine.specs.Shown.{state_of}
-use Rattle.std.proofs.Common.{arith, refl, ap}
-use Rattle.std.specs.Prelude.{Err}
+use Rattle.sim_machine.proofs.Common.{arith, refl, ap, Err}
 use Rattle.sim_machine.specs.Machine.{operations_by}
 use Rattle.sim_machine.proofs.Printing.{print_done, print_failed, print_refused, print_unsent}
 use Rattle.sim_machine.proofs.machine.Machine.print_step.Goals as goal

@@ -1,5 +1,4 @@
-use Rattle.std.proofs.Common.{ap, arith, refl, ◌∙◌}
-use Rattle.bbop_isa.specs.Forms.{view_of}
+use Rattle.sim_machine.proofs.Common.{ap, arith, refl, ◌∙◌, view_of}
 use Rattle.sim_machine.specs.Machine.{table_in}
 use Rattle.sim_machine.proofs.Keeping.{going}
 use Rattle.sim_machine.proofs.Stepping.{done_alone, failed_alone, leaves, same_table, unsent_alone}

@@ -1,5 +1,4 @@
-use Rattle.std.proofs.Common.{ap}
-use Rattle.bbop_isa.specs.Forms.{view_of}
+use Rattle.sim_machine.proofs.Common.{ap, view_of}
 use Rattle.sim_machine.specs.Machine.{turn_in}
 use Rattle.sim_machine.proofs.Comings.{goes, when_answered, when_chip, when_err, when_ok}
 use Rattle.sim_machine.proofs.Comings.{when_sink}

@@ -1,18 +1,10 @@
 use Rattle.sim_machine.specs.Shown.{state_of}
 use Rattle.sim_machine.proofs.Keeping.{laid_of, with_program}
-use Rattle.std.proofs.Common.{◌≡◌, ◌∙◌, ◌++◌, List, ap, arith, map, refl, subst}
-use Rattle.host_edge.specs.Views.{Known}
-use Rattle.dram_model.specs.View.{ChipView, Did}
+use Rattle.sim_machine.proofs.Common.{◌≡◌, ◌∙◌, ◌++◌, List, ap, arith, map, refl, subst, Known}
+use Rattle.sim_machine.proofs.Common.{ChipView, Did, Microprogram, Instruction, Reply, Piece, Wave}
+use Rattle.sim_machine.proofs.Common.{lines, Answered, routines_in, reply_to, view_of}
 use Rattle.uprog_bin.specs.Opened.{File}
-use Rattle.uprog_code.specs.Shape.{Microprogram}
-use Rattle.bbop_isa.specs.Forms.{Instruction}
-use Rattle.machine_model.specs.declared.Reply.{Reply}
-use Rattle.machine_model.specs.Pieces.{Piece, Wave, piece_events}
-use Rattle.machine_model.specs.Report.{lines}
-use Rattle.machine_model.specs.Report.Said.{Answered}
-use Rattle.machine_model.specs.Routines.{routines_in}
-use Rattle.machine_model.specs.Steps.{reply_to}
-use Rattle.bbop_isa.specs.Forms.{view_of}
+use Rattle.machine_model.specs.Pieces.{piece_events}
 use Rattle.sim_machine.specs.declared.machine.Machine.{Machine}
 use Rattle.sim_machine.specs.Machine.{events_by, geometry_of, reply_of, table_in, turn_in}
 use Rattle.sim_machine.proofs.Rising.{wave_rises}

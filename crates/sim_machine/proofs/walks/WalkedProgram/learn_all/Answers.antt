@@ -1,7 +1,5 @@
-use Rattle.std.proofs.Common.{arith, subst}
-use Rattle.bbop_isa.specs.Forms.{view_of}
+use Rattle.sim_machine.proofs.Common.{arith, subst, view_of, IsPlain}
 use Rattle.bbop_isa.specs.declared.instr.Instr.{Instr}
-use Rattle.machine_model.specs.Agrees.{IsPlain}
 use Rattle.sim_machine.proofs.Waving.{all_at}
 use Rattle.sim_machine.proofs.walks.WalkedProgram.learn_all.Goals as goal
 

@@ -1,4 +1,4 @@
-use Rattle.std.proofs.Common.{◌≡◌}
+use Rattle.sim_machine.proofs.Common.{◌≡◌}
 use Rattle.sim_machine.proofs.walks.WalkedProgram.learn_all.Given as goal
 
 abbrev pub invariant-loop-instr : goal.invariant-loop-instr

@@ -1,5 +1,4 @@
-use Rattle.std.proofs.Common.{sym}
-use Rattle.uprog_bin.specs.Opened.{program_of}
+use Rattle.sim_machine.proofs.Common.{sym, program_of}
 use Rattle.sim_machine.proofs.walks.WalkedProgram.walk.Goals as goal
 
 pub returns-in-Some-clause-value : goal.returns-in-Some-clause-value

@@ -1,13 +1,6 @@
-use Rattle.std.proofs.Common.{◌∙◌, [], ◌∷◌, ap, subst, sym}
-use Rattle.machine_model.specs.Pieces.{piece_of}
-use Rattle.uprog_code.specs.declared.walker.Counts.{Counts}
-use Rattle.bbop_isa.specs.Forms.{view_of}
-use Rattle.machine_model.specs.declared.Reply.{Reply}
-use Rattle.machine_model.specs.declared.Reply.TheVariants.{Done}
-use Rattle.machine_model.specs.Script.{plus}
-use Rattle.sim_machine.specs.Machine.{geometry_of, program_of, table_in, turn_in}
-use Rattle.guard_model.specs.Triples.{x_letter, y_letter, z_letter}
-use Rattle.guard_model.specs.Guarded.{on_copy}
+use Rattle.tmr_guard.proofs.Common.{◌∙◌, [], ◌∷◌, ap, subst, sym, piece_of, Counts, view_of, Reply}
+use Rattle.tmr_guard.proofs.Common.{Done, plus, geometry_of, program_of, table_in, turn_in}
+use Rattle.tmr_guard.proofs.Common.{x_letter, y_letter, z_letter, on_copy}
 use Rattle.tmr_guard.specs.Steps.{DidOne, RepliedBy, machine_in}
 use Rattle.tmr_guard.proofs.Exits.{exit_all, exit_first, exit_second, exit_third, moved_one}
 use Rattle.tmr_guard.proofs.Exits.{moved_ran}

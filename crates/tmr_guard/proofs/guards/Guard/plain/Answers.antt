@@ -1,7 +1,4 @@
-use Rattle.std.proofs.Common.{subst}
-use Rattle.bbop_isa.specs.Forms.{Instruction, view_of}
-use Rattle.transpose_unit.specs.Stopped.{StoppedWithin}
-use Rattle.machine_model.specs.Pieces.{piece_of}
+use Rattle.tmr_guard.proofs.Common.{subst, Instruction, view_of, StoppedWithin, piece_of}
 use Rattle.sim_machine.specs.Machine.{events_by as plain_events}
 use Rattle.tmr_guard.specs.Steps.{DidOne, machine_in}
 use Rattle.tmr_guard.proofs.Bounded.{few_commands}

@@ -1,6 +1,4 @@
-use Rattle.std.proofs.Common.{ap, arith}
-use Rattle.std.specs.Prelude.{Err}
-use Rattle.sim_machine.specs.Machine.{table_in, turn_in}
+use Rattle.tmr_guard.proofs.Common.{ap, arith, Err, table_in, turn_in}
 use Rattle.tmr_guard.specs.Steps.{machine_in}
 use Rattle.tmr_guard.proofs.Shown.{print_broke, print_refused, print_shown, print_unsent}
 use Rattle.tmr_guard.proofs.guards.Guard.print_step.Goals as goal

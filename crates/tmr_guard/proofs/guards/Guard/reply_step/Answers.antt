@@ -1,5 +1,5 @@
 use Rattle.tmr_guard.specs.Steps.{machine_in}
-use Rattle.bbop_isa.specs.Forms.{view_of}
+use Rattle.tmr_guard.proofs.Common.{view_of}
 use Rattle.tmr_guard.proofs.Shown.{reply_broke, reply_guarded, silent_broke}
 use Rattle.tmr_guard.proofs.guards.Guard.reply_step.Goals as goal
 

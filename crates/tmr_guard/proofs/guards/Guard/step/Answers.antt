@@ -1,8 +1,5 @@
-use Rattle.std.proofs.Common.{◌∙◌, ap}
-use Rattle.bbop_isa.specs.Forms.{view_of}
-use Rattle.object_steps.specs.declared.fault.StepFault.TheVariants.{ChipFault, WriteFault}
-use Rattle.sim_machine.specs.Machine.{geometry_of, operations_by, table_in}
-use Rattle.guard_model.specs.Triples.{first_stranger}
+use Rattle.tmr_guard.proofs.Common.{◌∙◌, ap, view_of, ChipFault, WriteFault, geometry_of}
+use Rattle.tmr_guard.proofs.Common.{operations_by, table_in, first_stranger}
 use Rattle.tmr_guard.specs.Steps.{machine_in}
 use Rattle.tmr_guard.proofs.Came.{when_answered, when_err, when_fault, when_ok}
 use Rattle.tmr_guard.proofs.guards.Guard.step.Goals as goal

@@ -1,8 +1,5 @@
-use Rattle.std.proofs.Common.{◌≡◌, ◌∙◌, subst}
-use Rattle.std.specs.Prelude.{IfOk, OnErr, OnOk}
-use Rattle.dram_model.specs.View.{Did, StoppedIn}
-use Rattle.sim_machine.specs.Machine.{geometry_of, table_in}
-use Rattle.guard_model.specs.Votes.{vote_count, vote_events}
+use Rattle.tmr_guard.proofs.Common.{◌≡◌, ◌∙◌, subst, IfOk, OnErr, OnOk, Did, StoppedIn, geometry_of}
+use Rattle.tmr_guard.proofs.Common.{table_in, vote_count, vote_events}
 use Rattle.tmr_guard.specs.Steps.{machine_in}
 use Rattle.tmr_guard.proofs.Stops.{rose_of}
 use Rattle.tmr_guard.proofs.guards.Guard.vote.Goals as goal

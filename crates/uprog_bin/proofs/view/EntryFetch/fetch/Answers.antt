@@ -1,6 +1,4 @@
-use Rattle.std.proofs.Common.{Some, sym, ap, ◌∙◌, arith}
-use Rattle.uprog_code.specs.Shape.{shape_of}
-use Rattle.uprog_code.specs.declared.code.Uop.{Uop}
+use Rattle.uprog_bin.proofs.Common.{Some, sym, ap, ◌∙◌, arith, shape_of, Uop}
 use Rattle.uprog_bin.proofs.Uops.{length-code, at-code}
 use Rattle.uprog_bin.proofs.view.EntryFetch.fetch.Goals as goal
 

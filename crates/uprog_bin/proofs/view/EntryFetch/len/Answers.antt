@@ -1,5 +1,4 @@
-use Rattle.std.proofs.Common.{sym, arith}
-use Rattle.uprog_code.specs.Shape.{shape_of}
+use Rattle.uprog_bin.proofs.Common.{sym, arith, shape_of}
 use Rattle.uprog_bin.proofs.Uops.{length-code}
 use Rattle.uprog_bin.proofs.view.EntryFetch.len.Goals as goal
 

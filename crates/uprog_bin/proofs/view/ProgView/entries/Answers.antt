@@ -1,4 +1,4 @@
-use Rattle.std.proofs.Common.{◌∙◌}
+use Rattle.uprog_bin.proofs.Common.{◌∙◌}
 use Rattle.uprog_bin.proofs.Files.{entries_are}
 use Rattle.uprog_bin.proofs.view.ProgView.entries.Goals as goal
 

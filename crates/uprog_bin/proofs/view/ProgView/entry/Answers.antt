@@ -1,8 +1,6 @@
-use Rattle.std.proofs.Common.{◌≡◌, ◌+◌, ◌*◌, ◌<◌, refl, length, List, Some, drop, take, sym, ap}
-use Rattle.std.proofs.Common.{◌∙◌, arith}
-use Rattle.std.specs.Prelude.{slice_get}
+use Rattle.uprog_bin.proofs.Common.{◌≡◌, ◌+◌, ◌*◌, ◌<◌, refl, length, List, Some, drop, take, sym}
+use Rattle.uprog_bin.proofs.Common.{ap, ◌∙◌, arith, slice_get, shape_of}
 use Rattle.std.proofs.lemmas.Option.{slice_get_read}
-use Rattle.uprog_code.specs.Shape.{shape_of}
 use Rattle.uprog_bin.specs.declared.directory.Listed.{Listed}
 use Rattle.uprog_bin.specs.Opened.{EntryBytes}
 use Rattle.uprog_bin.proofs.Files.{entries_are}

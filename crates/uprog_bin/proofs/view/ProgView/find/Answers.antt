@@ -1,5 +1,4 @@
-use Rattle.std.proofs.Common.{ℕ, List, sym, ap, ◌∙◌}
-use Rattle.std.specs.List.{position}
+use Rattle.uprog_bin.proofs.Common.{ℕ, List, sym, ap, ◌∙◌, position}
 use Rattle.uprog_bin.specs.declared.directory.Listed.{Listed}
 use Rattle.uprog_bin.specs.Reading.{is_named}
 use Rattle.uprog_bin.proofs.Found.{place_is}

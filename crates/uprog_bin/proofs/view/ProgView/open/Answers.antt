@@ -1,5 +1,4 @@
-use Rattle.std.proofs.Common.{◌∙◌, sym, ap, arith}
-use Rattle.std.proofs.lemmas.Result.{err_from_is_err_and}
+use Rattle.uprog_bin.proofs.Common.{◌∙◌, sym, ap, arith, err_from_is_err_and}
 use Rattle.uprog_bin.specs.Opened.{file_of, programs_in}
 use Rattle.uprog_bin.specs.Reading.{program_in}
 use Rattle.uprog_bin.proofs.Exact.{spelled}
