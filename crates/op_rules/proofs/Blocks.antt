@@ -4,6 +4,7 @@ use Rattle.std.proofs.Common.{◌∷◌, ◌++◌, map, length, arith, None, ref
 use Rattle.std.proofs.Common.{append_assoc, append-nil, bytes_eq, cond}
 use Rattle.std.specs.List.{filter}
 use Rattle.text_lex.specs.Lexical.{Item}
+use Rattle.grammar.specs.Machine as machine
 use Rattle.op_text.specs.declared.fault.OpsKind.TheVariants as why
 use Rattle.op_text.specs.declared.tree.Kind.{Kind}
 use Rattle.op_text.specs.declared.tree.Kind.TheVariants.{Word, Bit}
@@ -32,7 +33,7 @@ pub direction_moves : (down : Bool) (s : Scope) (wanted : List Wanted) (rest : L
     → breach_of (Direction ∷ Open ∷ wanted) s
     (items_spelled (direction_text down ∷ codes "(" ∷ rest))
     ≡ breach_of wanted s (items_spelled rest)
-unfolding breach_of
+unfolding machine.breach_of
 direction_moves false s wanted rest = refl
 direction_moves true s wanted rest = refl
 
@@ -191,7 +192,7 @@ pub block_peels : (b : Block) (ops stands : List (List ℕ)) (c : Context)
     → breach_of (Stmts ∷ wanted) (at_statement ops stands c count)
     (items_spelled (statement_text (Visit b) rest)) ≡ None
     → AfterStatement (Visit b) ops c count wanted rest
-unfolding breach_of
+unfolding machine.breach_of
 block_peels b ops stands c count wanted rest n st h =
     let here = before_block ops stands c count in
     let S = state_names b in

@@ -5,6 +5,7 @@ use Rattle.std.proofs.Common.{append_assoc, append-nil, bytes_eq, cond, subst, O
 use Rattle.std.specs.List.{list_any}
 use Rattle.std.specs.Option.{unwrap_or}
 use Rattle.std.proofs.lemmas.List.{length-append}
+use Rattle.grammar.specs.Machine as machine
 use Rattle.op_text.specs.declared.fault.OpsKind.TheVariants as why
 use Rattle.op_text.specs.declared.tree.Kind.{Kind}
 use Rattle.op_text.specs.declared.tree.Kind.TheVariants.{Word, Bit}
@@ -81,7 +82,7 @@ body_peels : (body : List Statement) (ops stands : List (List ℕ)) (c : Context
     → count ≤ 16 → breach_of (Stmts ∷ wanted) (at_statement ops stands c count)
     (items_spelled (in_turn statement_text body (codes "}" ∷ rest))) ≡ None
     → WholeBody body ops c count wanted rest
-unfolding breach_of
+unfolding machine.breach_of
 body_peels [] ops stands c count wanted rest n s l h =
     let k = one_rule (list_any (λ (r : Param). not (is_known (kind_among c.known r.name)))
     c.results) why.NoResult (in_params ops [] []) [] (mark (codes "}"))
@@ -112,7 +113,7 @@ pub first_same : (st : Statement) (s : Scope) (wanted : List Wanted) (rest : Lis
     → HasStatement st
     → breach_of (FirstStmt ∷ wanted) s (items_spelled (statement_text st rest))
     ≡ breach_of (Stmts ∷ wanted) s (items_spelled (statement_text st rest))
-unfolding breach_of
+unfolding machine.breach_of
 first_same (Compute target second p args) s wanted rest n =
     let more = target_end second (op_text p ∷ codes "("
     ∷ between_commas name_text args (codes ")" ∷ codes ";" ∷ rest)) in
@@ -126,7 +127,7 @@ first_peels : (body : List Statement) (s : Scope) (wanted : List Wanted) (rest :
     → (1 ≤ length body)
     × (breach_of (Stmts ∷ wanted) s (items_spelled
     (in_turn statement_text body (codes "}" ∷ rest))) ≡ None)
-unfolding breach_of
+unfolding machine.breach_of
 first_peels [] s wanted rest n h = cc
 first_peels (st ∷ body) s wanted rest n h = (
   omega arith,
@@ -225,7 +226,7 @@ record AfterOp (op : Operation) (ops : List (List ℕ)) (rest : List (List ℕ))
 op_peels : (op : Operation) (ops : List (List ℕ)) (rest : List (List ℕ)) → HasOperation op
     → breach_of (Ops ∷ []) (in_params ops [] []) (items_spelled (operation_text op rest)) ≡ None
     → AfterOp op ops rest
-unfolding breach_of
+unfolding machine.breach_of
 op_peels op ops rest n h =
     let body = in_turn statement_text op.body (codes "}" ∷ rest) in
     let head = codes "->" ∷ results_text op.result op.second body in

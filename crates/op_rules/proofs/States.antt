@@ -3,6 +3,7 @@ use Rattle.std.proofs.Common.{◌≡◌, ℕ, ◌+◌, ◌<◌, ◌≤◌, Bool,
 use Rattle.std.proofs.Common.{[], ◌∷◌, ◌++◌, map, length, arith, Some, None, refl, sym, ap, ◌∙◌}
 use Rattle.std.proofs.Common.{codes, subst, append_assoc, append-nil, cond}
 use Rattle.std.proofs.lemmas.List.{length-append}
+use Rattle.grammar.specs.Machine as machine
 use Rattle.op_text.specs.declared.terminal.Terminal.TheVariants as t
 use Rattle.text_lex.specs.Lexical.{Item}
 use Rattle.op_text.specs.declared.fault.OpsKind.TheVariants as why
@@ -12,7 +13,8 @@ use Rattle.op_text.specs.declared.grammar.Wanted.{Wanted}
 use Rattle.op_text.specs.declared.grammar.Wanted.TheVariants.{States, StateName, Start, MoreStates}
 use Rattle.op_text.specs.declared.grammar.Wanted.TheVariants.{Equals}
 use Rattle.op_text.specs.Items.{spelling_of}
-use Rattle.op_text.specs.Rules.{Scope, breach_of, is_bad, is_taken_state, is_among, step, after}
+use Rattle.op_text.specs.Rules.{Scope, breach_of, is_bad, is_taken_state, is_among, step}
+use Rattle.grammar.specs.Machine.{after}
 use Rattle.op_text.specs.Rules.{with_rules, state_rules, kind_among, is_known, is_of_kind}
 use Rattle.op_text.specs.Spelling.{items_spelled, start_text, between_commas, after_commas}
 use Rattle.op_text.specs.Spelling.{state_text, Each, HasState}
@@ -76,7 +78,7 @@ state_moves s stands done n wanted items h =
 pub start_moves : (b : Bool) (s : Scope) (wanted : List Wanted) (rest : List (List ℕ))
     → breach_of (Equals ∷ Start ∷ wanted) s (items_spelled (codes "=" ∷ start_text b ∷ rest))
     ≡ breach_of wanted s (items_spelled rest)
-unfolding breach_of
+unfolding machine.breach_of
 start_moves false s wanted rest = refl
 start_moves true s wanted rest = refl
 
@@ -157,7 +159,7 @@ states_after : (ss : List State) (ops stands : List (List ℕ)) (c : Context)
     → breach_of (MoreStates ∷ wanted) (in_states (before_block ops stands c count) stands
     done) (items_spelled (after_commas state_text ss (codes ")" ∷ rest))) ≡ None
     → AllStates ops stands c count done ss wanted rest
-unfolding breach_of
+unfolding machine.breach_of
 states_after [] ops stands c count done wanted rest n st l h =
     record {
       are = tt;
@@ -190,7 +192,7 @@ pub states_peel : (ss : List State) (ops stands : List (List ℕ)) (c : Context)
     → breach_of (States ∷ wanted) (in_states (before_block ops stands c count) stands [])
     (items_spelled (between_commas state_text ss (codes ")" ∷ rest))) ≡ None
     → AllStates ops stands c count [] ss wanted rest
-unfolding breach_of
+unfolding machine.breach_of
 states_peel [] ops stands c count wanted rest n st h =
     record { are = tt; fresh = tt; few = omega arith; then = h }
 states_peel (s ∷ ss) ops stands c count wanted rest n st h =

@@ -4,12 +4,14 @@ use Rattle.std.proofs.Common.{None, Result, Ok, refl, ap, nat_le, length, nat_lt
 use Rattle.text_lex.specs.Lexical.{Lexeme, Whole, is_token}
 use Rattle.text_lex.specs.Spelled.{fits_name}
 use Rattle.text_lex.specs.declared.token.TokenKind.TheVariants as kinds
+use Rattle.grammar.specs.Machine as machine
 use Rattle.op_text.specs.declared.fault.OpsKind.{OpsKind}
-use Rattle.op_text.specs.declared.fault.Breach.{Breach}
+use Rattle.op_text.specs.Items.{Breach}
 use Rattle.op_text.specs.declared.terminal.Terminal.TheVariants as t
 use Rattle.op_text.specs.declared.grammar.Wanted.{Wanted}
 use Rattle.op_text.specs.Items.{opens, spelling_of}
-use Rattle.op_text.specs.Rules.{Scope, step, after, breach_of, unless, with_rules, is_bad, is_plain}
+use Rattle.op_text.specs.Rules.{Scope, step, breach_of, unless, with_rules, is_bad, is_plain}
+use Rattle.grammar.specs.Machine.{after}
 use Rattle.op_text.specs.Spelling.{is_good, kind_of_text, items_spelled}
 
 -- what stands after a token
@@ -35,7 +37,7 @@ pub named : (w : Wanted) (wanted : List Wanted) (s : Scope) (n : List ℕ) (rest
     → breach_of (w ∷ wanted) s (items_spelled (n ∷ rest))
     ≡ after (step w s (t.Name (spelling_of n)) n (opens (items_spelled rest))) (name_lexeme n)
     (goes wanted rest)
-unfolding breach_of
+unfolding machine.breach_of
 named w wanted s n rest h =
     ap (λ k. breach_of (w ∷ wanted) s (Whole (record { kind = k; text = n; start = 0 })
     ∷ items_spelled rest)) (name_kind n h)

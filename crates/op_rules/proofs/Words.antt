@@ -6,6 +6,7 @@ use Rattle.std.specs.Option.{unwrap_or}
 use Rattle.std.specs.List.{list_any}
 use Rattle.text_lex.specs.Lexical.{Item, Lexeme}
 use Rattle.text_lex.specs.declared.token.TokenKind.TheVariants as kinds
+use Rattle.grammar.specs.Machine as machine
 use Rattle.op_text.specs.declared.fault.OpsKind.TheVariants as why
 use Rattle.op_text.specs.declared.terminal.Spelling.{Spelling}
 use Rattle.op_text.specs.declared.terminal.Spelling.TheVariants as sp
@@ -22,7 +23,8 @@ use Rattle.op_text.specs.Grammar.{statement}
 use Rattle.op_text.specs.Items.{spelling_of}
 use Rattle.op_text.specs.WordOps.{op_text, forms, filled, lacks, is_part, is_whole, is_begun}
 use Rattle.op_text.specs.WordOps.{given_first, first_of, second_kind}
-use Rattle.op_text.specs.Rules.{Scope, breach_of, after, with_rules, is_bad, is_taken_name}
+use Rattle.op_text.specs.Rules.{Scope, breach_of, with_rules, is_bad, is_taken_name}
+use Rattle.grammar.specs.Machine.{after}
 use Rattle.op_text.specs.Rules.{is_called, is_among, kind_among, is_known, has_targets, known_op}
 use Rattle.op_text.specs.Rules.{statement_rules, argument_of_kind, gives_kind, is_other_result}
 use Rattle.op_text.specs.Rules.{second_of, new_word, new_block}
@@ -64,7 +66,7 @@ record AfterTarget (n : Spelling) (s : Scope) (target : List ℕ) (wanted : List
 no_block : (second : Option (List ℕ)) (s : Scope) (wanted : List Wanted) (rest : List (List ℕ))
     → IfThere IsName second
     → breach_of (Direction ∷ wanted) s (items_spelled (target_end second rest)) ≡ None → ⊥
-unfolding breach_of
+unfolding machine.breach_of
 no_block None s wanted rest n h = cc
 no_block (Some name) s wanted rest n h = cc
 
@@ -109,7 +111,7 @@ second_peels : (second : Option (List ℕ)) (s : Scope) (wanted : List Wanted)
     (items_spelled (target_end second rest)) ≡ None
     → IfThere (SecondFacts s) second
     × (breach_of wanted (in_word s second o.Not []) (items_spelled rest) ≡ None)
-unfolding breach_of
+unfolding machine.breach_of
 second_peels None s wanted rest m h = (tt, h)
 second_peels (Some n) s wanted rest m h =
     let more = codes "=" ∷ rest in
@@ -125,7 +127,7 @@ pub operation_goes : (p : WordOp) (s : Scope) (wanted : List Wanted) (rest : Lis
     → breach_of (WordOpName ∷ wanted) s (items_spelled (op_text p ∷ rest))
     ≡ after (with_rules (Some []) (known_op s (Some p))) (name_lexeme (op_text p))
     (goes wanted rest)
-unfolding breach_of
+unfolding machine.breach_of
 operation_goes o.Not s wanted rest = refl
 operation_goes p s wanted rest = refl
 
@@ -135,7 +137,7 @@ operation_peels : (p : WordOp) (s : Scope) (second : Option (List ℕ)) (wanted 
     (items_spelled (op_text p ∷ codes "(" ∷ rest)) ≡ None
     → (has_targets second (second_kind p) ≡ true)
     × (breach_of wanted (in_word s second p []) (items_spelled rest) ≡ None)
-unfolding breach_of
+unfolding machine.breach_of
 operation_peels p s second wanted rest h =
     let k = one_rule (not (has_targets second (second_kind p))) why.Kind (in_word s second p []) []
     (name_lexeme (op_text p)) (goes (Open ∷ wanted) (codes "(" ∷ rest))
@@ -173,7 +175,7 @@ args_after : (args : List (List ℕ)) (s : Scope) (given : List Kind) (wanted : 
     → breach_of (MoreArgs ∷ wanted) (with_given s given)
     (items_spelled (after_commas name_text args (codes ")" ∷ rest))) ≡ None
     → AllArgs s given args wanted rest
-unfolding breach_of
+unfolding machine.breach_of
 args_after [] s given wanted rest n h =
     let k = one_rule (not (list_any (λ f. is_whole (lacks given f.takes)) (forms s.word.operation)))
     why.Kind (with_given s given) [] (mark (codes ")")) (goes wanted rest) h in
@@ -206,7 +208,7 @@ args_peel : (args : List (List ℕ)) (s : Scope) (wanted : List Wanted) (rest : 
     → breach_of (Args ∷ wanted) (with_given s [])
     (items_spelled (between_commas name_text args (codes ")" ∷ rest))) ≡ None
     → AllArgs s [] args wanted rest
-unfolding breach_of
+unfolding machine.breach_of
 args_peel [] s wanted rest n h =
     let k = one_rule (not (list_any (λ f. is_whole (lacks [] f.takes)) (forms s.word.operation)))
     why.Kind (with_given s []) [] (mark (codes ")")) (goes wanted rest) h in
@@ -338,7 +340,7 @@ pub word_peels : (target : List ℕ) (second : Option (List ℕ)) (p : WordOp) (
     → breach_of (Stmts ∷ wanted) (at_statement ops stands c count)
     (items_spelled (statement_text (Compute target second p args) rest)) ≡ None
     → AfterStatement (Compute target second p args) ops c count wanted rest
-unfolding breach_of
+unfolding machine.breach_of
 word_peels target second p args ops stands c count wanted rest n standing h =
     let s = at_statement ops stands c count in
     let list = between_commas name_text args (codes ")" ∷ codes ";" ∷ rest) in

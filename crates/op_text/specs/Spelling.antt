@@ -66,10 +66,6 @@ unplaced text = Whole (record { kind = kind_of_text text; text = text; start = 0
 abbrev pub items_spelled : List (List ℕ) → List Item
 items_spelled texts = map unplaced texts
 
--- the scope of a block whose gates weigh so much more
-abbrev pub heavier : Scope → ℕ → Scope
-heavier s w = record s { block = record s.block { weight = s.block.weight + w } }
-
 -- an item without its place
 abbrev pub bare : Item → Item
 bare (Whole u) = Whole (record { kind = u.kind; text = u.text; start = 0 })

@@ -10,7 +10,7 @@ mod terminal;
 mod tree;
 mod word_ops;
 
-pub use fault::{Breach, OpsFault, OpsKind, OpsNo};
+pub use fault::{OpsFault, OpsKind, OpsNo};
 pub use gate::{Gate, gate_of};
 pub use grammar::Wanted;
 pub use laws::{

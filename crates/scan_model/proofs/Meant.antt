@@ -6,6 +6,7 @@ use Rattle.std.specs.Prelude.{codes, ◌||◌, nat_lt, nat_le}
 use Rattle.std.proofs.Math.Nat.{pow-succ'}
 use Rattle.std.proofs.lemmas.Bool.Decides.{nat_tests}
 use Rattle.bit_rows.specs.Bits as rows
+use Rattle.grammar.specs.Machine as machine
 use Rattle.op_text.specs.declared.tree.Kind.{Kind}
 use Rattle.op_text.specs.declared.tree.Kind.TheVariants.{Word, Bit}
 use Rattle.op_text.specs.Values.{bit_number, value, bits}
@@ -87,7 +88,7 @@ or_means false false = refl
 
 -- the ops of scans meet the rules of operation texts
 pub text_meets : MeetRules scan_operations
-unfolding breach_of
+unfolding machine.breach_of
 text_meets = refl
 
 pub text_means : MeansScan (meaning_in scan_text)

@@ -1,5 +1,6 @@
 -- The op of one statement breaks no rule, whatever its operation with one result is: computed.
 use Rattle.std.proofs.Common.{◌≡◌, [], ◌∷◌, None, refl}
+use Rattle.grammar.specs.Machine as machine
 use Rattle.op_text.specs.declared.word_ops.WordOp.{WordOp}
 use Rattle.op_text.specs.declared.word_ops.WordOp.TheVariants as o
 use Rattle.op_text.specs.Rules.{breach_of}
@@ -8,6 +9,6 @@ use Rattle.op_text.specs.WordOps.{second_kind}
 use Rattle.soak_job.specs.Cases.{one_statement}
 
 pub rules_met : (op : WordOp) → second_kind op ≡ None → MeetRules (one_statement op ∷ [])
-unfolding breach_of
+unfolding machine.breach_of
 rules_met o.Divmod e = cc
 rules_met op e = refl
