@@ -1,10 +1,11 @@
 #!/usr/bin/env python3
 """Row commands of serial blocks that are written as one would write them, and the processor time of their search.
 
-Run it at the top of the repository:  python3 bench/blocks.py [--program PATH] [--beside PATH]
+Run it at the top of the repository:  python3 bench/blocks.py [--program PATH] [--beside PATH] [--runs N]
 It compiles each text of bench/blocks, asks `cost` at n = 8 and n = 32, and prints the commands that each position takes:
 those of the reduced graph, without the search for other graphs (`known.csv`), those now, and the fewest that are known.
-With a second program it prints the commands at n = 8 and the milliseconds of `compile` of both, side by side.
+With a second program it prints the commands at n = 8 and the milliseconds of `compile` of both, side by side: both
+compile each text N times (1) in turn, and the least time is taken.
 It ends with 1 where a text takes more than the reduced graph took, or where full adders or subtractors take more than
 7n + 2 or 6n + 2: their carry stands in cells from one position to the next, and goes to its row in the end.
 """
@@ -64,13 +65,19 @@ def is_more(name, now, before):
     )
 
 
-def compare(paths, rows):
+def in_turn(paths, folder, text, runs):
+    """What each program makes of a text, in the least time of so many runs."""
+    all_runs = [[compiled(path, folder, text) for path in paths] for _ in range(runs)]
+    return [min(of_one, key=lambda made: made.milliseconds) for of_one in zip(*all_runs)]
+
+
+def compare(paths, rows, runs):
     """Prints commands and time of two programs."""
     print(BESIDE.format("block", "n8", "n8", "ms", "ms"))
     sums = [0, 0, 0, 0]
     with tempfile.TemporaryDirectory() as folder:
         for row in rows:
-            both = [compiled(path, folder, TEXTS / f"{row['op']}.ops") for path in paths]
+            both = in_turn(paths, folder, TEXTS / f"{row['op']}.ops", runs)
             shown = [made.counts[0] for made in both] + [round(made.milliseconds) for made in both]
             sums = [a + b for a, b in zip(sums, shown)]
             print(BESIDE.format(row["op"], *shown))
@@ -103,11 +110,12 @@ def main():
     """Prints the table; the status."""
     parser = program.parser(__doc__)
     parser.add_argument("--beside", type=pathlib.Path, help="a second program, whose commands and time are printed beside")
+    parser.add_argument("--runs", type=int, default=1, help="how often both programs compile each text")
     asked = parser.parse_args()
     rows = list(csv.DictReader((TEXTS / "known.csv").read_text(encoding="utf-8").splitlines()))
     first = program.path_of(asked)
     if asked.beside:
-        compare([first, asked.beside.resolve()], rows)
+        compare([first, asked.beside.resolve()], rows, asked.runs)
         return 0
     return show(first, rows)
 

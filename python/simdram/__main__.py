@@ -5,13 +5,13 @@ import importlib
 import signal
 import sys
 
-from .files.fault import FileFault, NotWritten
-from .launcher import help_text, streams
+from .files.store import FileFault, NotWritten
+from .launcher import streams
 from .launcher.commands import ALL, Command
 from .launcher.faults import WRONG, Fault
-from .launcher.say import say
+from .launcher.streams import say
 from .launcher.settings import Settings, taken
-from .launcher.words import parser_of
+from .launcher.words import all_commands, parser_of, version
 
 HELP = ("help", "--help", "-h")
 NO_MEMORY, INTERRUPTED = 10, 130
@@ -38,7 +38,7 @@ def help_on(words: list[str], settings: Settings) -> int:
     if words and command is None:
         raise Fault(f"there is no command {words[0]}; simdram help lists them")
     if command is None:
-        print(help_text.all_commands(), end="")
+        print(all_commands(), end="")
     elif command.is_program:
         print(parser_of(command).format_help(), end="")
     else:
@@ -53,7 +53,7 @@ def start(words: list[str]) -> int:
     if name in HELP:
         return help_on(others, settings)
     if name == "--version":
-        print(help_text.version())
+        print(version())
         return 0
     if name in ALL and not ALL[name].is_program:
         return tool(ALL[name], others, settings)

@@ -4,9 +4,8 @@ import support  # noqa: F401  (the path)
 
 from simdram.rules.op_tree import Block
 from simdram.rules.ops_rules import read_ops
-from simdram.simplify.estimate import OPTIMISM, guessed
+from simdram.simplify.statement_alone import OPTIMISM, Cost, guessed
 from simdram.simplify.measured import Measured
-from simdram.simplify.statement_alone import Cost
 
 
 class Guessed(Measured):

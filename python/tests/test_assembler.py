@@ -14,10 +14,10 @@ from test_words import called
 
 from simdram.assembler import Breach, assemble
 from simdram.assembler.forms import Form
-from simdram.assembler.one_width import one_width, other_width
+from simdram.assembler.at_width import one_width, other_width
 from simdram.assembler.reading import raw_text, readable_text
 from simdram.assembler.walks import Stuck, walk
-from simdram.files.fault import FileFault
+from simdram.files.store import FileFault
 from simdram.files.from_hex import bytes_in
 from simdram.files.program import Program
 

@@ -18,10 +18,9 @@ from simdram.files.image import HEAD_MAX, Table
 from simdram.rules import word_ops
 from simdram.rules.answers import first_fault, no_triples, query_refusals, script_refusals
 from simdram.rules.answer import first_breach
-from simdram.rules.flips_rules import check_flips
+from simdram.rules.script_rules import check_flips, read_script
 from simdram.rules.ops_rules import read_ops
 from simdram.rules.query_rules import read_query
-from simdram.rules.script_rules import read_script
 
 HEAD = "op f(a: word, b: word, s: bit) -> y: word {\n"
 # a text, the kind, the line and column, the token, and words of what would be right

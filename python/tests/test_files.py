@@ -8,10 +8,9 @@ import unittest
 from support import needs_program
 
 from simdram.files import columns, decode
-from simdram.files.fault import FileFault
+from simdram.files.store import FileFault, load, store
 from simdram.files.image import Image, NoRoom, Object, OutOfRange
 from simdram.files.program import Program
-from simdram.files.store import load, store
 from simdram.files.trace import Address, Event, Trace
 from simdram.launcher import run_program
 

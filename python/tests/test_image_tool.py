@@ -16,7 +16,7 @@ from support import needs_numpy, numpy
 
 from simdram.__main__ import status_of
 from simdram.files import numbers
-from simdram.files.fault import FileFault
+from simdram.files.store import FileFault
 from simdram.files.image import Image
 
 

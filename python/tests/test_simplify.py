@@ -21,11 +21,10 @@ from simdram.rules.ops_rules import read_ops
 from simdram.rules.verdicts import RIGHT, UNKNOWN
 from simdram.simplify import equal, simplify_tool, sums
 from simdram.simplify.equal import Comparer
-from simdram.simplify.outcome import WRONG
+from simdram.simplify.simplifier import WRONG, Options, Simplifier
 from simdram.simplify.search import Search
-from simdram.simplify.simplifier import Options, Simplifier
 from simdram.simplify.statement_cache import StatementCache
-from simdram.simplify.work_time import spent
+from simdram.simplify.measured import spent
 
 KERNELS = TOP / "bench" / "kernels"
 # those of the table that are always done; SIMDRAM_KERNELS=1 does all, and more random ops
@@ -180,7 +179,7 @@ class Simplified(unittest.TestCase):
                     (("a, b", "y = add(t, c);"), ("b, a", "serial up (k = 0) { y = xor(t, xor(c, k)); k = maj(t, c, k); }")))
         self.assertEqual(Comparer(program()).equal(old, new, (16,)), equal.Equality({16: RIGHT}, True))
         wrong = read_ops(b"op f(a: word, b: word, c: word) -> y: word { t = mul(a, b); y = sub(t, c); }")[0]
-        self.assertEqual(Comparer(program()).equal(old, wrong, (1, 2)).wrong, [2])
+        self.assertEqual(Comparer(program()).equal(old, wrong, (1, 2)).at(WRONG), [2])
 
     # how it ends
 

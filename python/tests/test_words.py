@@ -69,6 +69,11 @@ class WrongWords(unittest.TestCase):
         for more in ([], ["1"], ["1", "1000"]):
             self.assertIsNone(wrong_words(["optimise", "o", "p", "8", "n", *more]), more)
 
+    def test_a_flag_stands_anywhere(self):
+        words = ["o", "p", "8", "n", "1", "1000"]
+        for at in range(len(words) + 1):
+            self.assertIsNone(wrong_words(["optimise", *words[:at], "--rows", *words[at:]]), at)
+
     def test_no_word_is_an_option(self):
         for name in ("--", "-x", "--help", "=a", "@a"):
             self.assertIsNone(wrong_words(["show", name]), name)

@@ -131,7 +131,6 @@ class Chip:
         return array.made
 
     def values(self, array: Array) -> numpy.ndarray:
-        """An array's elements."""
         self.made(array)
         origin = array.value.origin
         if isinstance(origin, Constant):
@@ -224,9 +223,8 @@ def settled(array: Array, target: Value) -> bool:
 
 def compute(*arrays: Array) -> None:
     """Computes arrays of one chip and one shape together: two results become one op, where they fit."""
-    for array in arrays:
-        if not isinstance(array, Array):
-            raise TypeError(f"compute takes arrays of a chip, and not {type(array).__name__}")
+    for other in (one for one in arrays if not isinstance(one, Array)):
+        raise TypeError(f"compute takes arrays of a chip, and not {type(other).__name__}")
     if any(array.chip is not arrays[0].chip for array in arrays):
         raise ValueError("the arrays are of different chips")
     if arrays:

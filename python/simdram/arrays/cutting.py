@@ -1,10 +1,13 @@
-"""Cuts an expression into ops: each with at most four sources, sixteen statements and two results, at one width."""
+"""Cuts an expression into ops, with at most four sources, sixteen statements and two results each; and their texts."""
 
+import itertools
+import re
 import typing
 
+from ..rules.op_tree import head_text
 from ..rules.ops_rules import RESULTS, SOURCES, STATEMENTS
 from .expressions import Step, Value, givers, in_order
-from .operations import Operation
+from .operations import Operation, statement
 
 
 class Part:
@@ -34,43 +37,62 @@ def can_join(step: Step) -> bool:
 
 def cut(targets: typing.Sequence[Value], statements: int = STATEMENTS) -> list[Part]:
     """The parts that give the targets, in an order in which they can be done, of at most so many statements each."""
-    steps = in_order(targets)
-    if not steps:
+    if not (steps := in_order(targets)):
         return []
     wanted = {id(target) for target in targets}
     whole = Part(steps, wanted)
-    return [whole] if whole.fits(statements) else list(Pieces(steps, wanted, statements))[::-1]
+    return [whole] if whole.fits(statements) else list(pieces(steps, wanted, statements))[::-1]
 
 
-class Pieces:
+def pieces(steps: typing.Sequence[Step], wanted: set[int], statements: int) -> typing.Iterator[Part]:
     """The parts of steps that are no single op, the last first."""
+    place = {id(step): k for k, step in enumerate(steps)}
+    users: dict[int, set[int]] = {id(step): set() for step in steps}
+    for step in steps:
+        for below in givers(step.arguments):
+            users[id(below)].add(id(step))
 
-    def __init__(self, steps: typing.Sequence[Step], wanted: set[int], statements: int) -> None:
-        self.steps, self.wanted, self.statements = steps, wanted, statements
-        self.place = {id(step): k for k, step in enumerate(steps)}
-        self.users: dict[int, set[int]] = {id(step): set() for step in steps}
-        for step in steps:
-            for below in givers(step.arguments):
-                self.users[id(below)].add(id(step))
-
-    def __iter__(self) -> typing.Iterator[Part]:
-        placed: set[int] = set()
-        for step in reversed(self.steps):
-            if id(step) not in placed:
-                part, larger = None, Part([step], self.wanted)
-                while larger:
-                    part, larger = larger, self._larger(larger) if can_join(step) else None
-                placed |= {id(one) for one in part.steps}
-                self.wanted |= {id(value) for value in part.sources}
-                yield part
-
-    def _larger(self, part: Part) -> Part | None:
+    def larger_than(part: Part) -> Part | None:
         """The part with one more step; those are tried first that bring the fewest new sources."""
-        members = {id(step) for step in part.steps}
-        taken = {id(value) for value in part.sources}
+        members, taken = {id(step) for step in part.steps}, {id(value) for value in part.sources}
         below = {id(step): step for step in givers(part.sources)}
         for step in sorted(below.values(), key=lambda one: len({id(value) for value in one.arguments} - taken)):
-            larger = Part(sorted([step, *part.steps], key=lambda one: self.place[id(one)]), self.wanted)
-            if self.users[id(step)] <= members and larger.fits(self.statements):
+            larger = Part(sorted([step, *part.steps], key=lambda one: place[id(one)]), wanted)
+            if users[id(step)] <= members and larger.fits(statements):
                 return larger
         return None
+
+    placed: set[int] = set()
+    for step in reversed(steps):
+        if id(step) not in placed:
+            part, larger = None, Part([step], wanted)
+            while larger:
+                part, larger = larger, larger_than(larger) if can_join(step) else None
+            placed |= {id(one) for one in part.steps}
+            wanted |= {id(value) for value in part.sources}
+            yield part
+
+
+PARAMETER_NAMES, RESULT_NAMES = "abcd", "yz"
+HEAD = re.compile(r"op (\w+)\(")
+
+
+def text_of(name: str, part: Part) -> str:
+    """The text, in its canonical form."""
+    names = {id(value): letter for value, letter in zip(part.sources, PARAMETER_NAMES)}
+    names.update((id(value), letter) for value, letter in zip(part.results, RESULT_NAMES))
+    given, states, lines = len(names), map("s{}".format, itertools.count()), []
+    for step in part.steps:
+        for value in step.results:
+            names.setdefault(id(value), f"t{len(names) - given}")
+        targets, arguments = ([names[id(value)] for value in values] for values in (step.results, step.arguments))
+        said = statement(step.operation, targets[0], arguments, states.__next__) if step.operation.block else \
+            f"{', '.join(targets)} = {step.operation.name}({', '.join(arguments)});"
+        lines.append(f"  {said}\n")
+    head = head_text(f"op {name}", *([(names[id(value)], value.kind) for value in values] for values in (part.sources, part.results)))
+    return f"{head} {{\n{''.join(lines)}}}\n"
+
+
+def renamed(text: str, name: str) -> str:
+    """The same op under another name."""
+    return HEAD.sub(f"op {name}(", text, count=1)

@@ -90,8 +90,7 @@ def each_once(waiting: list[typing.Any], below: typing.Callable[[typing.Any], ty
     """What waits, the last first, and all that is below it: each once, after what is below it."""
     done: dict[int, typing.Any] = {}
     while waiting:
-        left = [one for one in below(waiting[-1]) if id(one) not in done]
-        if left:
+        if left := [one for one in below(waiting[-1]) if id(one) not in done]:
             waiting += left[::-1]
         else:
             one = waiting.pop()
@@ -100,7 +99,6 @@ def each_once(waiting: list[typing.Any], below: typing.Callable[[typing.Any], ty
 
 
 def givers(values: typing.Iterable[Value]) -> list[Step]:
-    """The steps that give values."""
     return [value.origin.step for value in values if isinstance(value.origin, Result)]
 
 
@@ -110,13 +108,7 @@ def in_order(targets: typing.Iterable[Value]) -> list[Step]:
 
 
 def number_of(value: Value) -> int | None:
-    """The number of a constant."""
     return value.origin.number if isinstance(value.origin, Constant) else None
-
-
-def is_ones(value: Value) -> bool:
-    """Whether it is the constant of ones alone."""
-    return number_of(value) == 2**value.bits - 1
 
 
 def arguments_of(name: str, value: Value) -> tuple[Value, ...]:
@@ -138,5 +130,4 @@ def other_of(name: str, value: Value, one: Value) -> Value | None:
 
 
 def are_opposite(x: Value, y: Value) -> bool:
-    """Whether one is the complement of the other."""
     return under("not", x) is y or under("not", y) is x

@@ -9,7 +9,6 @@ from . import expressions, layout
 from .operations import BIT, NAMED, OPERATIONS, WORD
 from .refusals import Refused
 
-
 Operator = typing.Callable[[typing.Any, typing.Any], typing.Any]
 
 
@@ -153,8 +152,7 @@ def stepped(operation: typing.Any, operands: typing.Sequence[typing.Any],
 def arrays_of(operation: typing.Any, operands: typing.Sequence[typing.Any],
               bits: int | None = None) -> list[typing.Any]:
     """Operands as arrays of one chip: numbers become constants, and NumPy's arrays are placed."""
-    given = [one for one in operands if isinstance(one, Operators)]
-    if not given:
+    if not (given := [one for one in operands if isinstance(one, Operators)]):
         raise TypeError(f"{operation.name} takes an array of a chip, such as chip.array(x, bits=8)")
     if any(one.chip is not given[0].chip for one in given):
         raise ValueError(f"the arrays of {operation.name} are of different chips")

@@ -8,10 +8,9 @@ from ..files.program import Program
 from ..files.store import folder_of
 from ..launcher import run_program
 from ..rules.verdicts import VERIFIED, Verdict, verdicts_of
-from .counted import Counted
-from .op_text import renamed
+from .user_ops import Counted, canonical
+from .cutting import renamed
 from .refusals import Stopped
-from .user_ops import canonical
 
 OPS = re.compile(r"^op ", re.MULTILINE)
 
@@ -53,8 +52,7 @@ class OwnProgram(Counted):
 
     def check(self, width: int) -> None:
         """Warns where the program is not known to be right at this width."""
-        known = self.verdicts.get(width)
-        if not known:
+        if not (known := self.verdicts.get(width)):
             said = f"is {known.kind}" if known is not None else "was never verified"
             warnings.warn(f"{self.name} {said} at width {width}: {self.name}.verify(\"op ..\", {width}) says whether it is right",
                           Unverified, stacklevel=3)

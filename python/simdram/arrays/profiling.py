@@ -47,13 +47,9 @@ def profile(made: Made) -> ScriptProfile:
 
 def counted(made: Made) -> list[Row]:
     """The lines that compute, each with what the report says of it."""
-    reported = [line for line in made.report.splitlines() if not line.startswith("total ")]
-    rows = []
-    for line, report in zip(made.script.splitlines(), reported):
-        match = DONE.fullmatch(report)
-        if match and computes(line):
-            rows.append(Row(line, int(match[2]), int(match[3]), 1))
-    return rows
+    reported = (line for line in made.report.splitlines() if not line.startswith("total "))
+    pairs = [(line, DONE.fullmatch(report)) for line, report in zip(made.script.splitlines(), reported)]
+    return [Row(line, int(match[2]), int(match[3]), 1) for line, match in pairs if match and computes(line)]
 
 
 def op_of(line: str) -> str:

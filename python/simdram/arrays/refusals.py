@@ -1,6 +1,5 @@
 """What the front raises where the program refuses."""
 
-
 from ..launcher.run_program import Ended
 from ..rules import answers
 
@@ -31,5 +30,4 @@ class Stopped(RuntimeError):
 
 
 def last_line(text: str) -> str:
-    """The last line of what the program put."""
     return (text.splitlines() or [""])[-1]

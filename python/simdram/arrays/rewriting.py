@@ -1,14 +1,13 @@
 """The rules by which an operation becomes a simpler one: where an argument is a constant, or two are equal or opposite.
 
-A rule takes the builder and the operation's arguments, and gives its result or results, or None where it says nothing.
-Of a commutative operation a constant is the last argument. Not all arguments are constants.
+A rule is a condition on an operation's arguments, and a function of the builder and the arguments that gives the results,
+or None where it says nothing. Of a commutative operation a constant is the last argument. Not all arguments are constants.
 """
 
 import typing
 
-from .expressions import Value, are_opposite, arguments_of, is_ones, number_of, other_of, under
-from .layout import Product
-from .layout_rules import masked, without_zeros
+from .expressions import Value, are_opposite, arguments_of, number_of, other_of, under
+from .layout import Product, masked, without_zeros
 from .operations import BIT, OPERATIONS
 
 COMMUTATIVE = ("add", "mul", "and", "or", "xor", "eq", "min", "max")
@@ -17,42 +16,41 @@ COMMANDS: dict[str, typing.Callable[[int], int]] = {
     "fill": lambda n: n, "shl1": lambda n: n, "add": lambda n: 9 * n + 1, "sub": lambda n: 6 * n + 1,
     "mul": lambda n: (9 * n * n + n) // 2 - 2 + n % 2, "negative": lambda n: 6 * n + 2,
 }
+Holds = typing.Callable[..., bool]
+Gives = typing.Callable[..., typing.Any]
 
 
-def with_number(b, name: str, x: Value, y: Value) -> Value | None:
+def known(place: int, number: int | None = None) -> Holds:
+    """Whether an argument is a constant, or this number modulo 2^bits."""
+    def holds(*values: Value) -> bool:
+        found = number_of(values[place])
+        return found is not None and (number is None or found == number % 2**values[place].bits)
+    return holds
+
+
+def does(name: str, *places: int) -> Gives:
+    """The operation of this name on some of the arguments."""
+    return lambda b, *values: b.do(name, *(values[place] for place in places))
+
+
+def with_number(name: str) -> Gives:
     """Of an operation on a constant and on a result of the same operation on a constant, one operation on both numbers."""
-    inner = arguments_of(name, x)
-    if inner and number_of(y) is not None and number_of(inner[1]) is not None:
-        return b.do(name, inner[0], b.do("add" if name == "sub" else name, inner[1], y))
-    return None
+    def gives(b, x: Value, y: Value) -> Value | None:
+        inner = arguments_of(name, x)
+        if inner and number_of(y) is not None and number_of(inner[1]) is not None:
+            return b.do(name, inner[0], b.do("add" if name == "sub" else name, inner[1], y))
+        return None
+    return gives
 
 
-def add(b, x, y):
-    if number_of(y) == 0:
-        return x
-    if x is y:
-        return b.do("shl1", x)
+def summed(b, x, y):
+    """A sum with a negative number, or one in which a subtrahend goes away."""
     for first, second in ((x, y), (y, x)):
         if under("negative", second) is not None:
             return b.do("sub", first, under("negative", second))
         if arguments_of("sub", second)[1:] == (first,):
             return under("sub", second)
-    # a difference takes fewer commands than a sum
-    return b.do("sub", x, b.like(y, -number_of(y))) if number_of(y) is not None else None
-
-
-def sub(b, x, y):
-    if number_of(y) == 0:
-        return x
-    if x is y:
-        return b.like(x, 0)
-    if is_ones(x):
-        return b.do("not", y)
-    if under("negative", y) is not None:
-        return b.do("add", x, under("negative", y))
-    if number_of(x) == 0:
-        return b.do("negative", y)
-    return cancelled(b, x, y) or with_number(b, "sub", x, y)
+    return None
 
 
 def cancelled(b, x, y):
@@ -126,128 +124,87 @@ def div_and_rem(b, x, y):
     return None
 
 
-def and_(b, x, y):
-    if x is y or is_ones(y):
-        return x
-    if number_of(y) == 0 or are_opposite(x, y):
-        return b.like(x, 0)
-    return masked(b, x, number_of(y)) if number_of(y) is not None else absorbed("and", "or", x, y)
-
-
-def or_(b, x, y):
-    if x is y or number_of(y) == 0:
-        return x
-    if is_ones(y) or are_opposite(x, y):
-        return b.like(x, -1)
-    return absorbed("or", "and", x, y) or with_number(b, "or", x, y)
-
-
-def absorbed(name: str, dual: str, x: Value, y: Value) -> Value | None:
+def absorbed(name: str, dual: str) -> Gives:
     """`and` of x and of `and` or `or` of x and another, and the same of `or`."""
-    for first, second in ((x, y), (y, x)):
-        if other_of(name, second, first) is not None:
-            return second
-        if other_of(dual, second, first) is not None:
-            return first
-    return None
-
-
-def xor(b, x, y):
-    if x is y:
-        return b.like(x, 0)
-    if are_opposite(x, y):
-        return b.like(x, -1)
-    if number_of(y) == 0:
-        return x
-    if is_ones(y):
-        return b.do("not", x)
-    return other_of("xor", x, y) or other_of("xor", y, x) or with_number(b, "xor", x, y)
-
-
-def eq(b, x, y):
-    if x is y:
-        return b.bit(1)
-    if number_of(y) == 0:
-        return b.do("not", b.do("or_red", x))
-    return b.do("and_red", x) if is_ones(y) else None
-
-
-def gt(b, x, y):
-    if x is y or is_ones(y) or number_of(x) == 0:
-        return b.bit(0)
-    if number_of(y) == 0:
-        return b.do("or_red", x)
-    return b.do("not", b.do("and_red", y)) if is_ones(x) else None
-
-
-def ge(b, x, y):
-    if x is y or is_ones(x) or number_of(y) == 0:
-        return b.bit(1)
-    if number_of(x) == 0:
-        return b.do("not", b.do("or_red", y))
-    return b.do("and_red", x) if is_ones(y) else None
-
-
-def signed_gt(b, x, y):
-    least = 1 << x.bits - 1
-    if x is y or number_of(x) == least or number_of(y) == least - 1:
-        return b.bit(0)
-    return b.do("sign", y) if number_of(x) == 0 else None
-
-
-def signed_ge(b, x, y):
-    least = 1 << x.bits - 1
-    if x is y or number_of(y) == least or number_of(x) == least - 1:
-        return b.bit(1)
-    return b.do("not", b.do("sign", x)) if number_of(y) == 0 else None
+    def gives(_b, x: Value, y: Value) -> Value | None:
+        for first, second in ((x, y), (y, x)):
+            if other_of(name, second, first) is not None:
+                return second
+            if other_of(dual, second, first) is not None:
+                return first
+        return None
+    return gives
 
 
 def if_else(b, x, y, condition):
-    if x is y or number_of(condition) is not None:
-        return x if x is y or number_of(condition) else y
-    if under("not", condition) is not None:
-        return b.do("if_else", y, x, under("not", condition))
-    if x.kind == BIT:
-        if number_of(x) is not None and number_of(y) is not None:
-            return condition if number_of(x) else b.do("not", condition)
-        if number_of(x) is not None:
-            return b.do("or", condition, y) if number_of(x) else b.do("and", b.do("not", condition), y)
-        if number_of(y) is not None:
-            return b.do("or", b.do("not", condition), x) if number_of(y) else b.do("and", condition, x)
-        return None
-    if number_of(y) == 0:
-        return b.do("zero_unless", x, condition)
-    return b.do("zero_if", y, condition) if number_of(x) == 0 else None
+    """A choice by a condition that is no constant, and not the complement of another."""
+    if x.kind != BIT:
+        return b.do("zero_unless", x, condition) if number_of(y) == 0 else b.do("zero_if", y, condition) if number_of(x) == 0 else None
+    if number_of(x) is not None and number_of(y) is not None:
+        return condition if number_of(x) else b.do("not", condition)
+    if number_of(x) is not None:
+        return b.do("or", condition, y) if number_of(x) else b.do("and", b.do("not", condition), y)
+    if number_of(y) is not None:
+        return b.do("or", b.do("not", condition), x) if number_of(y) else b.do("and", condition, x)
+    return None
 
 
-def zero_unless(b, x, condition):
-    if number_of(condition) is not None:
-        return x if number_of(condition) else b.like(x, 0)
-    return x if number_of(x) == 0 else None
+def is_least(value: Value) -> bool:
+    """Whether it is the constant of the least signed number."""
+    return number_of(value) == 1 << value.bits - 1
 
 
-def zero_if(b, x, condition):
-    if number_of(condition) is not None:
-        return b.like(x, 0) if number_of(condition) else x
-    return x if number_of(x) == 0 else None
+def is_greatest(value: Value) -> bool:
+    """Whether it is the constant of the greatest signed number."""
+    return number_of(value) == (1 << value.bits - 1) - 1
 
 
-def least(_b, x, y):
-    if x is y or is_ones(y):
-        return x
-    return y if number_of(y) == 0 else None
+def same(x: Value, y: Value, *_: Value) -> bool:
+    return x is y
 
 
-def greatest(_b, x, y):
-    if x is y or number_of(y) == 0:
-        return x
-    return y if is_ones(y) else None
+def always(*_: Value) -> bool:
+    return True
 
 
-RULES: dict[str, typing.Callable] = {
-    "add": add, "sub": sub, "mul": mul, "div": lambda b, x, y: b.do("divmod", x, y), "divmod": div_and_rem,
-    "rem": lambda b, x, y: b.results(OPERATIONS["divmod"], (x, y), x.bits)[1],
-    "and": and_, "or": or_, "xor": xor, "not": lambda _b, x: under("not", x), "copy": lambda _b, x: x,
-    "eq": eq, "gt": gt, "ge": ge, "signed_gt": signed_gt, "signed_ge": signed_ge, "if_else": if_else, "zero_unless": zero_unless,
-    "zero_if": zero_if, "negative": lambda _b, x: under("negative", x), "min": least, "max": greatest,
+X, Y, X_0, Y_0, X_ONES, Y_ONES = known(0), known(1), known(0, 0), known(1, 0), known(0, -1), known(1, -1)
+FIRST: Gives = lambda _b, x, *_: x
+SECOND: Gives = lambda _b, _x, y: y
+ZEROS: Gives = lambda b, x, *_: b.like(x, 0)
+ONES: Gives = lambda b, x, *_: b.like(x, -1)
+FALSE: Gives = lambda b, *_: b.bit(0)
+TRUE: Gives = lambda b, *_: b.bit(1)
+# the rules of each operation, of which the first is taken that holds and says something
+RULES: dict[str, tuple[tuple[Holds, Gives], ...]] = {
+    # a difference takes fewer commands than a sum
+    "add": ((Y_0, FIRST), (same, does("shl1", 0)), (always, summed), (Y, lambda b, x, y: b.do("sub", x, b.like(y, -number_of(y))))),
+    "sub": ((Y_0, FIRST), (same, ZEROS), (X_ONES, does("not", 1)),
+            (lambda x, y: under("negative", y) is not None, lambda b, x, y: b.do("add", x, under("negative", y))),
+            (X_0, does("negative", 1)), (always, cancelled), (always, with_number("sub"))),
+    "mul": ((always, mul),), "div": ((always, does("divmod", 0, 1)),), "divmod": ((always, div_and_rem),),
+    "rem": ((always, lambda b, x, y: b.results(OPERATIONS["divmod"], (x, y), x.bits)[1]),),
+    "and": ((same, FIRST), (Y_ONES, FIRST), (Y_0, ZEROS), (are_opposite, ZEROS), (Y, lambda b, x, y: masked(b, x, number_of(y))),
+            (always, absorbed("and", "or"))),
+    "or": ((same, FIRST), (Y_0, FIRST), (Y_ONES, ONES), (are_opposite, ONES), (always, absorbed("or", "and")), (always, with_number("or"))),
+    "xor": ((same, ZEROS), (are_opposite, ONES), (Y_0, FIRST), (Y_ONES, does("not", 0)),
+            (always, lambda _b, x, y: other_of("xor", x, y) or other_of("xor", y, x)), (always, with_number("xor"))),
+    "not": ((always, lambda _b, x: under("not", x)),), "copy": ((always, FIRST),),
+    "negative": ((always, lambda _b, x: under("negative", x)),),
+    "eq": ((same, TRUE), (Y_0, lambda b, x, y: b.do("not", b.do("or_red", x))), (Y_ONES, does("and_red", 0))),
+    "gt": ((same, FALSE), (Y_ONES, FALSE), (X_0, FALSE), (Y_0, does("or_red", 0)),
+           (X_ONES, lambda b, x, y: b.do("not", b.do("and_red", y)))),
+    "ge": ((same, TRUE), (X_ONES, TRUE), (Y_0, TRUE), (X_0, lambda b, x, y: b.do("not", b.do("or_red", y))), (Y_ONES, does("and_red", 0))),
+    "signed_gt": ((same, FALSE), (lambda x, y: is_least(x) or is_greatest(y), FALSE), (X_0, does("sign", 1))),
+    "signed_ge": ((same, TRUE), (lambda x, y: is_least(y) or is_greatest(x), TRUE), (Y_0, lambda b, x, y: b.do("not", b.do("sign", x)))),
+    "if_else": ((same, FIRST), (known(2), lambda b, x, y, condition: x if number_of(condition) else y),
+                (lambda x, y, condition: under("not", condition) is not None,
+                 lambda b, x, y, condition: b.do("if_else", y, x, under("not", condition))), (always, if_else)),
+    "zero_unless": ((Y_0, ZEROS), (Y, FIRST), (X_0, FIRST)), "zero_if": ((Y_0, FIRST), (Y, ZEROS), (X_0, FIRST)),
+    "min": ((same, FIRST), (Y_ONES, FIRST), (Y_0, SECOND)), "max": ((same, FIRST), (Y_0, FIRST), (Y_ONES, SECOND)),
 }
+
+
+def simpler(b, name: str, arguments: typing.Sequence[Value]) -> typing.Any:
+    """The result or results of an operation by its rules, or None where they say nothing."""
+    found = (gives(b, *arguments) for holds, gives in RULES.get(name, ()) if holds(*arguments))
+    return next((one for one in found if one is not None), None)

@@ -105,8 +105,7 @@ def store_program(script: Script, folder: str) -> None:
 def refusal(script: Script, ended: run_program.Ended) -> Refused:
     """What the first refused line of a report says."""
     for line in ended.out.splitlines():
-        match = REFUSED.fullmatch(line)
-        if match:
+        if match := REFUSED.fullmatch(line):
             line = script.lines[int(match[1]) - 1]
             return Refused(match[2], line + HELP.get(match[2], ""), match[3] and int(match[3]))
     raise Stopped("run", ended)

@@ -57,8 +57,7 @@ def scan(chip: Chip, query: str, /, **arrays: typing.Any) -> Count:
         cost = Cost(aap, ap, chip.image.banks_of(elements))
         chip.spend(cost)
         return Count(count, elements, cost)
-    refused = REFUSED.fullmatch(last_line(ended.out))
-    if refused:
+    if refused := REFUSED.fullmatch(last_line(ended.out)):
         raise Refused(refused[1], refusal(query, image, placed if refused[1] in OF_NAMES else None), int(refused[2]))
     raise Stopped("scan", ended, "query", query)
 

@@ -6,10 +6,9 @@ import re
 import typing
 
 from ..files.program import Entry
-from .cutting import Part, can_join
+from .cutting import Part, can_join, renamed, text_of
 from .expressions import Constant, Held, Step, Value
 from .layout import Join, Product, Slice, whole_of
-from .op_text import renamed, text_of
 from .own_programs import OwnProgram
 from .running import OPS_MOST, Script
 from .simpler_texts import Texts
@@ -74,8 +73,7 @@ class Scripts:
 
     def _do(self, part: Part) -> None:
         """The lines of a part, and what no later part reads."""
-        by_layout = LINES.get(type(part.steps[0].operation))
-        if by_layout:
+        if by_layout := LINES.get(type(part.steps[0].operation)):
             by_layout(self, part.steps[0])
         else:
             self._run(part)
@@ -87,29 +85,21 @@ class Scripts:
 
     def _run(self, part: Part) -> None:
         """The lines of an op: its constants, its results, its bbop."""
-        op = self._op(part)
-        sources = [self.object_of(value) for value in part.sources]
+        op, sources = self._op(part), {id(value): self.object_of(value) for value in part.sources}
         results = [self.object_of(value) for value in part.results]
-        self.bbop(op, [*results, *self._repeated(part, sources)], part.width or 1)
+        # an op of the designer's own may be given one value twice
+        given = part.sources if can_join(part.steps[0]) else part.steps[0].arguments
+        self.bbop(op, [*results, *(sources[id(value)] for value in given)], part.width or 1)
 
     def bbop(self, op: str, operands: typing.Sequence[str], width: int) -> None:
-        """The line of an op on operands."""
         self.lines.append(f"bbop_{op} {', '.join(operands)}, {self.count}, {width}")
 
     def op_of(self, text: str) -> str:
         """The name of the op of a text, which is compiled as it stands."""
         name = self.ops.setdefault((text, 0), self._fresh(self.ops.values()))
-        self._add_text(renamed(text, name))
+        self._add(renamed(text, name))
         self.written[renamed(text, name)] = None
         return name
-
-    @staticmethod
-    def _repeated(part: Part, sources: typing.Sequence[str]) -> list[str]:
-        """The sources as the op has them: an op of the designer's own may be given one value twice."""
-        if can_join(part.steps[0]):
-            return list(sources)
-        names = {id(value): name for value, name in zip(part.sources, sources)}
-        return [names[id(value)] for value in part.steps[0].arguments]
 
     def _op(self, part: Part) -> str:
         """The name of the op that does a part; equal texts are one op, and a script has at most 32."""
@@ -121,40 +111,21 @@ class Scripts:
         if key not in self.ops:
             taken = self.ops.values()
             self.ops[key] = own.name if own and own.name not in taken else self._fresh(taken)
-        if isinstance(own, OwnProgram):
-            self._add_entry(own.entry, own.text, self.ops[key])
-            self.written[own.text] = None
-        else:
-            self._add_op(key, text if own else "", self.ops[key])
-            self.written[renamed(text, self.ops[key])] = None
-        return self.ops[key]
+        name = self.ops[key]
+        entry = self.simpler.entry(*key) if own is None else own.entry if isinstance(own, OwnProgram) else None
+        # renaming leaves the text of a program as it is
+        self._add(renamed(own.text if own else self.simpler.compiled(*key), name), entry and dataclasses.replace(entry, name=name))
+        self.written[renamed(text, name)] = None
+        return name
 
-    def _add_op(self, key: tuple[str, int], own: str, name: str) -> None:
-        """The op of a text at a width is one of the script's, under a name: an op of the designer's own as it stands."""
-        entry = None if own else self.simpler.entry(*key)
-        text = renamed(own or self.simpler.compiled(*key), name)
-        if entry:
-            self._add_entry(entry, text, name)
-        else:
-            self._add_text(text)
-
-    def _add_text(self, text: str) -> None:
-        """The op of a text is one of the script's."""
-        if text not in self.scripts[-1].texts:
-            self._make_room()
-            self.scripts[-1].texts.append(text)
-
-    def _add_entry(self, entry: Entry, text: str, name: str) -> None:
-        """An entry is one of the script's, under a name, with the text that it is shown by."""
-        if all(one.name != name for one in self.scripts[-1].entries):
-            self._make_room()
-            self.scripts[-1].entries.append(dataclasses.replace(entry, name=name))
-            self.scripts[-1].programs.append(text)
-
-    def _make_room(self) -> None:
-        """A new script, where the one in hand has as many ops as a program file."""
+    def _add(self, text: str, entry: Entry | None = None) -> None:
+        """The op of a text, or an entry shown by it, is one of the script's; of a new one, where that has 32."""
+        if text in (self.scripts[-1].texts if entry is None else self.scripts[-1].programs):
+            return
         if len(self.scripts[-1].texts) + len(self.scripts[-1].entries) == OPS_MOST:
             self.scripts.append(Script())
+        (self.scripts[-1].texts if entry is None else self.scripts[-1].programs).append(text)
+        self.scripts[-1].entries += [entry] * (entry is not None)
 
     @staticmethod
     def _fresh(taken: typing.Collection[str]) -> str:

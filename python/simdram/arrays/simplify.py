@@ -7,10 +7,9 @@ division and a rest of the same numbers are one step, and of two results those t
 import typing
 
 from .expressions import Constant, Held, Result, Step, Value, in_order, kinds_of
-from .layout import Layout
-from .layout_rules import laid_out, moved, sliced
+from .layout import Layout, laid_out, moved, sliced
 from .operations import BIT, NAMED, OPERATIONS, WORD, Operation
-from .rewriting import COMMUTATIVE, RULES
+from .rewriting import COMMUTATIVE, simpler
 
 Results = tuple[Value, ...]
 
@@ -71,8 +70,7 @@ class Builder:
             return tuple(self.constant(kind, 1 if kind == BIT else width, number) for kind, number in zip(kinds_of(operation, arguments)[1], numbers))
         if operation.name in COMMUTATIVE:
             arguments = sorted(arguments, key=lambda one: (isinstance(one.origin, Constant), self.order[id(one)]))
-        found = RULES[operation.name](self, *arguments) if operation.name in RULES else None
-        if found is not None:
+        if (found := simpler(self, operation.name, arguments)) is not None:
             return found if isinstance(found, tuple) else (found,)
         return self.step(operation, arguments, width)
 

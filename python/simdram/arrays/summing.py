@@ -17,10 +17,11 @@ def summed(array: Array, axis: int | None) -> Array:
     """The sums along an axis, or over all elements. Each step reads the rows of an array, writes those of its two halves, and
     adds them, so that as many steps are taken as the number of elements on the axis has binary digits."""
     numbers = array.numpy()
-    shape = array.shape
-    if not shape:
+    if not (shape := array.shape):
         raise TypeError("one number has no axis to sum along")
-    axis = _axis(axis, len(shape))
+    if axis is not None and not -len(shape) <= axis < len(shape):
+        raise ValueError(f"axis {axis} of an array of {len(shape)} dimensions")
+    axis = None if axis is None else axis % len(shape)
     rest = () if axis is None else shape[:axis] + shape[axis + 1:]
     numbers = numbers.reshape(-1) if axis is None else numpy.moveaxis(numbers, axis, 0)
     made, current = array.chip.made(array), array
@@ -37,15 +38,6 @@ def summed(array: Array, axis: int | None) -> Array:
         return moved(current, numbers[0], made, read(current))
     number = Constant(int(cells.modulo(numbers, array.bits).reshape(-1)[0]), Made(cost=Cost(host_reads=read(current)), sources=(made,)))
     return Array(array.chip, (), Value(array.value.kind, array.bits, number), number.made, array.signed)
-
-
-def _axis(axis: int | None, count: int) -> int | None:
-    """An axis from 0, or none."""
-    if axis is None:
-        return None
-    if not -count <= axis < count:
-        raise ValueError(f"axis {axis} of an array of {count} dimensions")
-    return axis % count
 
 
 def read(array: Array) -> int:

@@ -2,8 +2,7 @@
 
 from ..files.program import Program
 from ..rules.answer import Breach
-from .encode import entry_of
-from .lowering import lowered
+from .lowering import entry_of, lowered
 from .parser import parsed
 
 __all__ = ["Breach", "assemble"]

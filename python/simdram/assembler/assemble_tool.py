@@ -10,8 +10,7 @@ import sys
 from ..files.store import load
 from ..launcher.faults import WRONG
 from ..launcher.overwrite import write
-from ..launcher.settings import Settings
-from ..launcher.tool_parser import Asked, tool
+from ..launcher.tool_parser import Asked, Settings, tool
 from . import Breach, assemble
 
 

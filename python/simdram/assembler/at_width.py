@@ -1,12 +1,15 @@
-"""Entries that begin with a test of the width: at one width they do one code, and at all others another, as `optimise` writes them."""
+"""Entries that begin with a test of the width: at one width they do one code, and at all others another, as `optimise` writes
+them; or they are stuck at all others, as the assembler writes programs of `width 8`."""
 
 import dataclasses
 import typing
 
-from ..files.program import AAP, AP, BNEZ, DONE, SETI, SETN, SUBI, Entry, Instruction
+from ..files.program import AAP, AP, BNEZ, DONE, LARGEST, SETI, SETN, SUBI, Entry, Instruction
 
 # how many instructions the test has, and how many stand between its first code and its second
 TEST, BETWEEN = 8, 2
+# how many instructions stand before the own ones of a program for one width, and how many after them
+BEFORE, AFTER = 3, 2
 NO_JUMPS = (SETI, AAP, AP, DONE)
 
 
@@ -19,7 +22,6 @@ class Choice(typing.NamedTuple):
 
 
 def made(kind: int, register: int, number: int = 0) -> Instruction:
-    """An instruction of a register and a number."""
     return Instruction(kind, bytes([kind, register, *number.to_bytes(2, "little")]).ljust(8, b"\0"))
 
 
@@ -62,3 +64,26 @@ def branch(entry: Entry, n: int | None) -> Entry:
     """The entry that is done at a width; without one that of all widths which no choice names."""
     found, rest = choices(entry)
     return next((one.here for one in found if one.width == n), rest)
+
+
+def one_width(entry: Entry) -> int | None:
+    """The width for which alone an entry is, or nothing where it is for all."""
+    if len(entry.code) <= BEFORE + AFTER:
+        return None
+    first, second, third = entry.code[:BEFORE]
+    stuck = len(entry.code) - AFTER
+    is_one = (first.kind, second.kind, third.kind, entry.code[stuck].kind) == (SETN, SUBI, BNEZ, SUBI) \
+        and {one.register for one in (first, second, third, entry.code[stuck])} == {first.register} \
+        and third.number == stuck and entry.code[stuck].number == LARGEST
+    return second.number if is_one else None
+
+
+def own(entry: Entry) -> Entry:
+    """The entry without the instructions that check its width: the target of each jump stands earlier by those before."""
+    return dataclasses.replace(entry, code=earlier(entry.code[BEFORE:len(entry.code) - AFTER], BEFORE))
+
+
+def other_width(entry: Entry, n: int) -> str:
+    """Why an entry is stuck at a width, where it is for another, or nothing."""
+    width = one_width(entry)
+    return "" if width in (None, n) else f"{entry.name} is a program for the width {width} alone"

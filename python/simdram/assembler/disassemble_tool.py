@@ -6,8 +6,7 @@ assemble to the same file, byte for byte.
 """
 
 from ..files.program import Program
-from ..launcher.settings import Settings
-from ..launcher.tool_parser import Asked, flag, tool
+from ..launcher.tool_parser import Asked, Settings, flag, tool
 from .reading import raw_text, readable_text
 
 

@@ -45,7 +45,6 @@ class Form(typing.NamedTuple):
 
     @property
     def variables(self) -> list[str]:
-        """The loop variables."""
         return [name for name, _ in self.terms if name != N]
 
     def __str__(self) -> str:

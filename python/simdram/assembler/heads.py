@@ -96,7 +96,6 @@ def check_listed(token: Token, space: int, which: int) -> None:
 
 
 def end_line(tokens: Tokens, what: str) -> None:
-    """A line ends here."""
     if not tokens.at_line_end():
         raise Breach(tokens.here, "syntax", f"{said(tokens.here)} stands after {what}", "a line ends there")
 
@@ -115,19 +114,12 @@ def read_entry(tokens: Tokens, head: Head) -> Token | None:
         values[field.text] = tokens.number("a number")
     end_line(tokens, "`entry`")
     for field, token in values.items():
-        check_field(field, token, head)
+        number, have = int(token.text), {"sources": len(head.sources), "results": len(head.results)}.get(field, int(token.text))
+        if field in ("bits", "words"):
+            names, letter = (head.bits, "t") if field == "bits" else (head.words, "w")
+            if not names and number <= SCRATCH_MAX:  # scratch that has no names yet is given those of listings
+                names += [f"{letter}{k}" for k in range(number)]
+            have = len(names)
+        if number != have:
+            raise Breach(token, "head", f"the head has {have} {field}, and this line {number}", f"`{field}={have}`")
     return values.get("code")
-
-
-def check_field(field: str, token: Token, head: Head) -> None:
-    """A field agrees with the head; scratch that has no names yet is given those of listings."""
-    number = int(token.text)
-    if field in ("bits", "words"):
-        names, letter = (head.bits, "t") if field == "bits" else (head.words, "w")
-        if not names and number <= SCRATCH_MAX:
-            names += [f"{letter}{k}" for k in range(number)]
-        have = len(names)
-    else:
-        have = {"sources": len(head.sources), "results": len(head.results)}.get(field, number)
-    if number != have:
-        raise Breach(token, "head", f"the head has {have} {field}, and this line {number}", f"`{field}={have}`")

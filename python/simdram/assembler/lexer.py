@@ -22,7 +22,6 @@ class Tokens:
 
     @property
     def here(self) -> Token:
-        """The next token."""
         return self.found[self.at]
 
     def next(self) -> Token:
@@ -41,10 +40,7 @@ class Tokens:
 
     def took(self, text: str) -> bool:
         """Takes the next token if it is this one."""
-        is_it = self.is_at(text)
-        if is_it:
-            self.next()
-        return is_it
+        return self.is_at(text) and bool(self.next())
 
     def expect(self, text: str, after: str) -> Token:
         """Takes this token, which has to come."""

@@ -5,14 +5,11 @@ are at most 32. OUT is a file of version 2.
 """
 
 from ..files.program import ENTRIES, Entry, Program
-from ..launcher.faults import Fault
 from ..launcher.overwrite import write
-from ..launcher.settings import Settings
-from ..launcher.tool_parser import Asked, option, tool
+from ..launcher.tool_parser import Asked, Fault, Settings, option, tool
 
 
 def linked(paths: list[str]) -> Program:
-    """The program with the entries of all files."""
     entries: list[Entry] = []
     origin: dict[str, str] = {}
     for path in paths:

@@ -47,7 +47,6 @@ class Way(typing.NamedTuple):
 
     @property
     def last(self) -> int:
-        """Its last instruction."""
         return self.past - 1
 
     def said(self, _: int) -> str:

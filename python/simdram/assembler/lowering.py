@@ -1,15 +1,17 @@
-"""From statements to instructions: loops, choices and subscripts become instructions on registers."""
+"""From statements to an entry: loops, choices and subscripts become instructions on registers, and labels places."""
 
+import contextlib
 import typing
 
-from ..files.program import (ADD, ADDI, BNEZ, DONE, LARGEST, MOV, REGISTERS, SETI, SETN, SETT, SUBI, Row)
+from ..files.program import (AAP, ADD, ADDI, AP, BNEZ, CODE, DONE, LARGEST, MOV, OPERANDS, REGISTERS, SETI, SETN, SETT, SUBI, Entry,
+                             Instruction, Row)
 from ..rules.answer import Breach
 from ..rules.tokens import NUMBER, Token
 from .forms import N, Form
 from .registers import Registers, least, named_registers, needs_of, tested
-from .tree import Command, For, If, Jump, Label, Next, Numbered, Operand, Out, Plain, ProgramText
+from .tree import Command, For, Head, If, Jump, Label, Next, Numbered, Operand, Out, Plain, ProgramText
 
-
+SIZE = 8
 # the label where a program for one width is stuck at others
 WRONG_WIDTH = ".wrong_width"
 
@@ -27,17 +29,12 @@ def lowered(program: ProgramText) -> "Lowering":
     """The instructions of a program, and its labels. Where there are too few registers for subscripts that are no loop's to
     keep one each, they are set before each command that needs them."""
     try:
-        made = Lowering(program)
-        made.whole()
+        return Lowering(program).whole()
     except Breach as fault:
-        if fault.kind != "register":
-            raise
-        made = Lowering(program, is_lean=True)
-        try:
-            made.whole()
-        except Breach:
-            raise fault from None
-    return made
+        if fault.kind == "register":
+            with contextlib.suppress(Breach):
+                return Lowering(program, is_lean=True).whole()
+        raise
 
 
 class Lowering:
@@ -55,7 +52,7 @@ class Lowering:
         self.around: list[For | If] = []
         self.token = program.head.token
 
-    def whole(self) -> None:
+    def whole(self) -> "Lowering":
         """The program. A subscript without loop variables has a register from the first statement that has it to the last;
         where there are labels, from the start to the end."""
         body = self.program.body
@@ -79,6 +76,7 @@ class Lowering:
             self.place(WRONG_WIDTH)
             self.emit(SUBI, stuck, number=LARGEST)
             self.emit(DONE)
+        return self
 
     def check_width(self) -> int | None:
         """A program for one width begins with instructions at which it is stuck at all others (`one_width` knows them again); the
@@ -100,7 +98,6 @@ class Lowering:
         return self.registers.take(token, what)
 
     def emit(self, kind: int, register: int = 0, other: int = 0, number: int | str = 0, rows: tuple[Row, ...] = ()) -> None:
-        """Writes an instruction."""
         self.code.append(Out(self.token, kind, register, other, number, rows))
 
     def new_label(self) -> str:
@@ -121,23 +118,11 @@ class Lowering:
 
     def statement(self, one: typing.Any) -> None:
         self.token = one.token
-        if isinstance(one, Command):
-            self.command(one)
-        elif isinstance(one, Plain):
-            self.emit(one.kind, one.register, one.other, one.number)
-        elif isinstance(one, Label):
-            self.place(one.token.text)
-        elif isinstance(one, Numbered):
-            if one.token.text != str(len(self.code)):
-                raise Breach(one.token, "number", f"this is instruction {len(self.code)}", "numbers may be left out")
-        elif isinstance(one, Jump):
-            self.jump(one)
-        elif isinstance(one, For):
-            self.loop(one)
-        elif isinstance(one, If):
-            self.choice(one)
-        elif isinstance(one, Next):
-            self.next(one)
+        WRITERS[type(one)](self, one)
+
+    def numbered(self, one: Numbered) -> None:
+        if one.token.text != str(len(self.code)):
+            raise Breach(one.token, "number", f"this is instruction {len(self.code)}", "numbers may be left out")
 
     def command(self, one: Command) -> None:
         rows = tuple(map(self.row, one.rows))
@@ -151,9 +136,8 @@ class Lowering:
         index = operand.index
         if index is None or isinstance(index, int):
             return Row(operand.space, operand.which, index or 0)
-        if index == Form():
-            return Row(operand.space, operand.which, REGISTERS)
-        return Row(operand.space, operand.which, self.held[index] if index in self.held else self.keep(index, operand.token))
+        register = REGISTERS if index == Form() else self.held[index] if index in self.held else self.keep(index, operand.token)
+        return Row(operand.space, operand.which, register)
 
     def keep(self, form: Form, token: Token) -> int:
         """A register that holds a subscript that is no loop's, set now where none does."""
@@ -169,8 +153,7 @@ class Lowering:
         """A jump to a label of the text; one that is always done needs a register that is not zero."""
         if self.is_lean and one.target.kind == NUMBER:
             raise Breach(one.target, "register", "a jump to a number leads where no label shows what registers hold")
-        register = one.register
-        if register is None:
+        if (register := one.register) is None:
             register = self.take(one.token, "a jump")
             self.emit(SETI, register, number=1)
             self.registers.free(register)
@@ -186,7 +169,6 @@ class Lowering:
         self.place(more)
 
     def add(self, register: int, number: int) -> None:
-        """Adds a number to a register."""
         if abs(number) > LARGEST:
             raise Breach(self.token, "number", f"{number} is added here", f"registers hold 0 to {LARGEST}")
         if number:
@@ -273,7 +255,7 @@ class Lowering:
             self.leave(frame.count, frame.end)
         self.emit(SUBI, frame.count, number=1)
 
-    def next(self, one: Next) -> None:
+    def next(self, _one: Next) -> None:
         """The next iteration, in the middle of the body."""
         frame = self.frames[-1]
         self.step(frame, 1)
@@ -317,3 +299,46 @@ class Lowering:
             self.statements(one.other)
             self.around.pop()
         self.place(end)
+
+
+# of each kind of statement what writes its instructions
+WRITERS: dict[type, typing.Callable[[Lowering, typing.Any], None]] = {
+    Command: Lowering.command, Jump: Lowering.jump, For: Lowering.loop, If: Lowering.choice, Next: Lowering.next, Numbered: Lowering.numbered,
+    Plain: lambda made, one: made.emit(one.kind, one.register, one.other, one.number), Label: lambda made, one: made.place(one.token.text),
+}
+
+
+def target(one: Out, labels: dict[str, int], size: int) -> int:
+    """The instruction that a jump leads to."""
+    if one.token.kind == NUMBER and one.number == one.token.text:
+        if int(one.token.text) >= size:
+            raise Breach(one.token, "target", f"there is no instruction {one.token.text}", f"the program has {size} instructions, 0 "
+                            f"to {size - 1}")
+        return int(one.token.text)
+    if one.number not in labels:
+        known = ", ".join(name for name in labels if not name.startswith("."))
+        right = f"the labels are {known}" if known else f"a label is written as `{one.number}:` before an instruction"
+        raise Breach(one.token, "target", f"there is no label {one.number} in this program", right)
+    return labels[one.number]
+
+
+def encoded(one: Out, labels: dict[str, int], size: int) -> Instruction:
+    """An instruction's eight bytes."""
+    raw = bytes([one.kind])
+    if one.kind in (AAP, AP):
+        raw += b"".join(bytes(row) for row in one.rows)
+    elif OPERANDS[one.kind]:
+        number = target(one, labels, size) if one.kind == BNEZ else one.number
+        raw += bytes([one.register])
+        raw += bytes([one.other]) if "s" in OPERANDS[one.kind] else number.to_bytes(2, "little")
+    return Instruction(one.kind, raw.ljust(SIZE, b"\0"))
+
+
+def entry_of(head: Head, made: Lowering) -> Entry:
+    size, said = len(made.code), made.program.code
+    if size > CODE[1]:
+        raise Breach(head.token, "head", f"the program has {size} instructions", f"a program has at most {CODE[1]}")
+    if said is not None and int(said.text) != size:
+        raise Breach(said, "head", f"the program has {size} instructions", f"`code={size}`")
+    code = tuple(encoded(one, made.labels, size) for one in made.code)
+    return Entry(head.name, tuple(head.sources.values()), tuple(head.results.values()), len(head.bits), len(head.words), code)

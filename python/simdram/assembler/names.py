@@ -32,9 +32,8 @@ def address_text(address: int) -> str:
 
 
 BY_CELLS = {frozenset(map(line_text, lines)): address for address, lines in enumerate(RAISED)}
-PAIRS = ", ".join(address_text(address) for address, lines in enumerate(RAISED) if len(lines) == 2)
-TRIPLES = ", ".join(address_text(address) for address, lines in enumerate(RAISED) if len(lines) == 3)
-SINGLES = ", ".join(address_text(address) for address, lines in enumerate(RAISED) if len(lines) == 1)
+SINGLES, PAIRS, TRIPLES = (", ".join(address_text(address) for address, lines in enumerate(RAISED) if len(lines) == count)
+                           for count in (1, 2, 3))
 
 
 class Named(typing.NamedTuple):
@@ -54,7 +53,6 @@ def listed(name: str) -> tuple[int, int] | None:
 
 
 def register_of(name: str) -> int | None:
-    """The number of a register's name."""
     match = REGISTER.fullmatch(name)
     return int(match[1]) if match else None
 
@@ -85,8 +83,7 @@ class Names:
         """What a name means: an operand, scratch, or a row by its name in a listing."""
         if token.text in self.known:
             return self.known[token.text]
-        place = listed(token.text)
-        if place is None:
+        if (place := listed(token.text)) is None:
             raise Breach(token, "name", f"there is no row `{token.text}`", f"the rows are {self.said()}, and the cells "
                             f"{', '.join(CELLS)}", "scratch is declared below the head, as `scratch c: bit, w: word`")
         space, which = place
@@ -103,8 +100,7 @@ class Names:
 
 def check_register(token: Token) -> int:
     """The number of a register, of which there are eight."""
-    number = register_of(token.text)
-    if number is None:
+    if (number := register_of(token.text)) is None:
         raise Breach(token, "register", f"`{token.text}` stands where a register is expected", "the registers are r0 to r7")
     if number >= REGISTERS:
         raise Breach(token, "register", f"there is no register {token.text}", "the registers are r0 to r7")

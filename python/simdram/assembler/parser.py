@@ -73,7 +73,11 @@ class Reader:
         if token.kind != NAME:
             raise Breach(token, "syntax", f"{said(token)} stands where {STATEMENTS} is expected")
         if self.tokens.is_at(":"):
-            body.append(self.label(token))
+            check_name(token, "a label")
+            if token.text in self.labels:
+                raise Breach(token, "twice", f"there is a label {token.text} already", "each label of a program has its own name")
+            self.labels.add(token.text)
+            body.append(Label(token))
             self.tokens.next()
             self.tokens.skip_lines()
             return
@@ -83,16 +87,7 @@ class Reader:
                             "a statement ends with its line, or with `;`")
         self.tokens.skip_lines()
 
-    def label(self, token: Token) -> Label:
-        """A place with a name, which is new in this program."""
-        check_name(token, "a label")
-        if token.text in self.labels:
-            raise Breach(token, "twice", f"there is a label {token.text} already", "each label of a program has its own name")
-        self.labels.add(token.text)
-        return Label(token)
-
     def named_statement(self, token: Token, body: list[typing.Any]) -> None:
-        """The statement that begins with this word."""
         if token.text == "for":
             body.append(self.loop(token))
         elif token.text == "if":
@@ -143,22 +138,15 @@ class Reader:
             raise Breach(self.tokens.here, "syntax", f"{said(self.tokens.here)} stands where `==` or `!=` is expected")
         is_equal = self.tokens.next().text == "=="
         made = If(token, first.minus(read_form(self.tokens, self.loops)))
-        one = self.block()
-        other = self.block() if self.took_else() else []
-        made.zero, made.other = (one, other) if is_equal else (other, one)
+        one, at = self.block(), self.tokens.at
+        self.tokens.skip_lines()
+        other = self.block() if self.tokens.took("else") else None
+        if other is None:  # `else` may stand on a line of its own, and the lines are left where it does not
+            self.tokens.at = at
+        made.zero, made.other = (one, other or []) if is_equal else (other or [], one)
         return made
 
-    def took_else(self) -> bool:
-        """Takes `else`, which may stand on a line of its own."""
-        at = self.tokens.at
-        self.tokens.skip_lines()
-        if self.tokens.took("else"):
-            return True
-        self.tokens.at = at
-        return False
-
     def instruction(self, token: Token, kind: int) -> typing.Any:
-        """An instruction of the machine."""
         if kind in (AAP, AP):
             rows = [read_row(self.tokens, self.names, self.loops)]
             if kind == AAP:
@@ -182,11 +170,9 @@ class Reader:
         return made
 
     def register(self) -> int:
-        """A register's number."""
         return check_register(self.tokens.name("a register"))
 
     def number(self) -> int:
-        """A number that an instruction may have."""
         token = self.tokens.number("a number")
         if int(token.text) > LARGEST:
             raise Breach(token, "number", f"{token.text} is too great", f"a number is at most {LARGEST}")
@@ -202,6 +188,4 @@ class Reader:
 
 def goes_down(start, end) -> bool:
     """Whether a loop goes down: from a number to a lesser one, from a variable to a number, or from n to what is without n."""
-    if not end.terms:
-        return bool(start.terms) or start.number > end.number
-    return start.times("n") > end.times("n")
+    return start.times("n") > end.times("n") if end.terms else bool(start.terms) or start.number > end.number

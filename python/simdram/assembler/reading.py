@@ -6,9 +6,9 @@ import typing
 
 from ..files.program import B_ADDRESS, BNEZ, C_ADDRESS, INDEXED, OPERANDS, REGISTERS, Entry, Instruction, Program, Row
 from ..rules.answer import Breach
-from .at_width import choice, choices
+from ..rules.op_tree import head_text
+from .at_width import choice, choices, one_width, own
 from .names import address_text
-from .one_width import one_width, own
 from .walks import Stuck, walk
 
 # at which widths a text with loops is compared with the instructions
@@ -26,17 +26,12 @@ def row_text(row: Row, entry: Entry, subscript: Subscript) -> str:
         return str(row)
     kinds = {2: entry.results, 3: entry.sources}.get(row.space, ())
     name = {2: RESULTS, 3: SOURCES}[row.space][row.which] if kinds else f"w{row.which}"
-    if kinds and kinds[row.which] == "bit" and row.index == REGISTERS:
-        return name
-    return f"{name}[{subscript(row.index)}]"
+    is_bit = kinds and kinds[row.which] == "bit" and row.index == REGISTERS
+    return name if is_bit else f"{name}[{subscript(row.index)}]"
 
 
-def register_text(register: int) -> str:
-    """A subscript as a register."""
-    return "0" if register == REGISTERS else f"r{register}"
-
-
-def instruction_text(one: Instruction, entry: Entry, labels: dict[int, str], subscript: Subscript = register_text) -> str:
+def instruction_text(one: Instruction, entry: Entry, labels: dict[int, str],
+                     subscript: Subscript = lambda register: "0" if register == REGISTERS else f"r{register}") -> str:
     """An instruction with names."""
     if one.rows:
         return " ".join([one.name, *(row_text(row, entry, subscript) for row in one.rows)])
@@ -58,8 +53,7 @@ def flat_lines(entry: Entry) -> list[str]:
 
 def body_lines(entry: Entry, lines_of: typing.Callable[[Entry], list[str]]) -> list[str]:
     """The statements of an entry: an `if` for each width that it has a straight line for, and the code of all others."""
-    found = choice(entry)
-    if found is None:
+    if (found := choice(entry)) is None:
         return lines_of(entry)
     here, elsewhere = lines_of(found.here), body_lines(found.elsewhere, lines_of)
     return [f"  if n == {found.width} {{", *(f"  {line}" for line in here), "  } else {", *(f"  {line}" for line in elsewhere), "  }"]
@@ -92,7 +86,6 @@ def is_same(lines: list[str], entry: Entry, widths: typing.Iterable[int]) -> boo
 
 
 def readable_text(program: Program) -> str:
-    """The text of a program."""
     parts = ["".join(f"{line}\n" for line in readable_lines(entry)) for entry in program.entries]
     version = f"version {program.version}\n\n" if program.version != 2 else ""
     return version + "\n".join(parts)
@@ -100,9 +93,7 @@ def readable_text(program: Program) -> str:
 
 def head_line(entry: Entry) -> str:
     """The head of a program, with names for the sources and the results, which a program file does not keep."""
-    takes, gives = (", ".join(f"{name}: {kind}" for name, kind in zip(names, kinds))
-                    for names, kinds in ((SOURCES, entry.sources), (RESULTS, entry.results)))
-    return f"program {entry.name}({takes}) -> {gives}"
+    return head_text(f"program {entry.name}", zip(SOURCES, entry.sources), zip(RESULTS, entry.results))
 
 
 def listing(entry: Entry) -> list[str]:

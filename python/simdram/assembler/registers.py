@@ -32,7 +32,6 @@ class Needs(typing.NamedTuple):
 
 
 def innermost(form: Form, around: Around) -> str | None:
-    """The innermost loop variable of a form."""
     order = [loop.variable for loop in around if isinstance(loop, For)]
     return max(form.variables, key=order.index, default=None)
 
@@ -49,16 +48,12 @@ def needs_of(statements: typing.Iterable[typing.Any], around: Around) -> Needs:
                 found.exact.update(inner.exact)
                 found.near.update(inner.near)
         elif isinstance(one, For):
-            add_loop(found, one, [*around, one])
+            within = [*around, one]
+            inner = needs_of(one.body, within)
+            starts = [form.put(one.variable, one.start) for form in inner.of(within)]
+            found.exact.update({form: None for form in inner.exact if not form.times(one.variable)})
+            found.near.update({form: None for form in [*inner.near, *starts, one.count] if not form.times(one.variable)})
     return found
-
-
-def add_loop(found: Needs, loop: For, around: Around) -> None:
-    """Adds what a loop needs of what is around it."""
-    inner = needs_of(loop.body, around)
-    found.exact.update({form: None for form in inner.exact if not form.times(loop.variable)})
-    starts = [form.put(loop.variable, loop.start) for form in inner.of(around)]
-    found.near.update({form: None for form in [*inner.near, *starts, loop.count] if not form.times(loop.variable)})
 
 
 def narrowest(around: Around) -> int:
@@ -95,7 +90,6 @@ def tested(one: If, around: Around) -> tuple[Form, int | None]:
 
 
 def named_registers(statements: typing.Iterable[typing.Any]) -> set[int]:
-    """The registers that statements name."""
     found: set[int] = set()
     for one in statements:
         if isinstance(one, Command):
@@ -119,9 +113,7 @@ class Registers:
         self.holds = {register: "the program names it" for register in named}
 
     def take(self, token: Token, what: str) -> int:
-        """A free register for something."""
-        free = [register for register in range(REGISTERS) if register not in self.holds]
-        if not free:
+        if not (free := [register for register in range(REGISTERS) if register not in self.holds]):
             held = ", ".join(f"r{register} {said}" for register, said in sorted(self.holds.items()))
             raise Breach(token, "register", f"there is no register left for {what}: {held}",
                             "fewer subscripts in one loop, or fewer loops in each other, take fewer registers")
@@ -129,5 +121,4 @@ class Registers:
         return free[0]
 
     def free(self, register: int) -> None:
-        """A register is free again."""
         del self.holds[register]

@@ -29,7 +29,6 @@ def read_row(tokens: Tokens, names: Names, loops: list[str]) -> Operand:
 
 
 def address(token: Token, group: str, which: int) -> Operand:
-    """An address by its group and number."""
     most = B_ADDRESSES if group == "B" else 2
     if which >= most:
         raise Breach(token, "row", f"there is no address {token.text}", f"the addresses are {group}0 to {group}{most - 1}")

@@ -34,13 +34,7 @@ class Structuring:
         self.lines: list[str] = []
         self.depth = 0
 
-    def text(self) -> list[str]:
-        """The lines of the whole entry."""
-        self.part(0, len(self.code) - 1)
-        return self.lines
-
     def put(self, line: str) -> None:
-        """Appends a line."""
         self.lines.append(f"{'  ' * (self.depth + 1)}{line}")
 
     def part(self, at: int, end: int) -> None:
@@ -70,9 +64,7 @@ class Structuring:
         return inside, jump.number
 
     def form(self, register: int) -> Form:
-        """What a register holds."""
-        form = self.held[register]
-        if form is None:
+        if (form := self.held[register]) is None:
             raise Unstructured
         return form
 
@@ -86,7 +78,6 @@ class Structuring:
             self.held[one.register] = changed(one, self.form)
 
     def subscript(self, register: int) -> str:
-        """A subscript as a sum."""
         return "0" if register == REGISTERS else str(self.form(register))
 
     def found(self, first: int, last: int) -> Loop:
@@ -142,4 +133,6 @@ class Structuring:
 
 def structured_lines(entry: Entry) -> list[str]:
     """The lines of an entry with loops; code that is no such loops raises `Unstructured`."""
-    return Structuring(entry).text()
+    made = Structuring(entry)
+    made.part(0, len(made.code) - 1)
+    return made.lines

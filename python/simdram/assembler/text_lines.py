@@ -1,15 +1,14 @@
 """The lines of a text of microprograms from which the instructions of an entry were assembled, where the text is at hand."""
 
+import contextlib
 import os
 import typing
 
-from ..files.fault import FileFault
+from ..files.store import FileFault, load
 from ..files.program import Entry
-from ..files.store import load
 from ..rules.answer import Breach
 from ..rules.tokens import line_of
-from .encode import entry_of
-from .lowering import lowered
+from .lowering import entry_of, lowered
 from .parser import parsed
 
 ENDING = ".micro"
@@ -40,25 +39,15 @@ def texts_beside(prog: str) -> list[str]:
     return sorted((path for path in paths if os.path.isfile(path) and os.path.getsize(path) <= LARGEST), key=lambda path: path != own)
 
 
-def lines_in(path: str, entry: Entry) -> TextLines | None:
-    """The lines of an entry in a text, where one of its programs is this entry."""
-    data = load(path)
-    for one in parsed(data).programs:
-        if one.head.name == entry.name:
-            made = lowered(one)
-            return TextLines(path, tuple(line_of(data, out.token.at) for out in made.code)) if entry_of(one.head, made) == entry else None
-    return None
-
-
 def text_lines(prog: str, entry: Entry) -> TextLines | None:
     """The lines of an entry of a program file, in the text of its name or another text of its folder."""
     for path in texts_beside(prog):
-        try:
-            found = lines_in(path, entry)
-        except (Breach, FileFault, OSError):
-            continue
-        if found:
-            return found
+        with contextlib.suppress(Breach, FileFault, OSError):
+            data = load(path)
+            for one in (one for one in parsed(data).programs if one.head.name == entry.name):
+                made = lowered(one)
+                if entry_of(one.head, made) == entry:
+                    return TextLines(path, tuple(line_of(data, out.token.at) for out in made.code))
     return None
 
 

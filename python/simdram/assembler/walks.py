@@ -3,7 +3,7 @@
 import collections
 import typing
 
-from ..files.program import AAP, ADD, ADDI, AP, BNEZ, DONE, INDEXED, MOV, REGISTERS, SETI, SETN, SETT, SUBI, Entry, Instruction, Row
+from ..files.program import ADD, ADDI, BNEZ, DONE, INDEXED, MOV, REGISTERS, SETI, SETN, SETT, SUBI, Entry, Instruction, Row
 
 # a row with its position: its space, which one of it, and the value of its index
 Place = tuple[int, int, int]
@@ -42,10 +42,10 @@ class Registers:
         return at + 1
 
 
-def walk(entry: Entry, n: int, turns: int = TURNS) -> list[tuple[Place, ...]]:
+def walk(entry: Entry, n: int) -> list[tuple[Place, ...]]:
     """The commands, each with its rows; that their positions are in range is not checked."""
     registers, at, found = Registers(n), 0, []
-    for _ in range(turns):
+    for _ in range(TURNS):
         one = entry.code[at]
         if one.kind == DONE:
             return found
@@ -59,7 +59,11 @@ def walk(entry: Entry, n: int, turns: int = TURNS) -> list[tuple[Place, ...]]:
 
 def executions(code: typing.Sequence[Instruction], width: int) -> list[int]:
     """Of each instruction how often it is executed, where the execution comes to its end, as `cost` says."""
-    ends, registers, at = next_controls(code), Registers(width), 0
+    # for each place the first instruction from there on that is no row command
+    ends = [0] * len(code)
+    for place in reversed(range(len(code))):
+        ends[place] = ends[place + 1] if code[place].rows else place
+    registers, at = Registers(width), 0
     starts: collections.Counter[int] = collections.Counter([at])
     while code[ends[at]].kind != DONE:
         at = registers.next(ends[at], code[ends[at]])
@@ -68,12 +72,4 @@ def executions(code: typing.Sequence[Instruction], width: int) -> list[int]:
     for start, times in starts.items():
         for place in range(start, ends[start] + 1):
             found[place] += times
-    return found
-
-
-def next_controls(code: typing.Sequence[Instruction]) -> list[int]:
-    """For each place, the first instruction from there on that is no row command."""
-    found = [0] * len(code)
-    for at in reversed(range(len(code))):
-        found[at] = found[at + 1] if code[at].kind in (AAP, AP) else at
     return found

@@ -13,10 +13,8 @@ commands, rows and ratio, for each file. --total is a table for a paper: the com
 
 import os
 
-from ..launcher.faults import Fault
-from ..launcher.settings import Settings
-from ..launcher.tool_parser import Asked, flag, option, tool
-from ..launcher.widths import widths_of
+from ..launcher.tool_parser import Asked, Fault, Settings, flag, option, tool
+from ..launcher.words import widths_of
 from .costs import EntryCost, costs_at
 from .table_formats import FORMATS, Rows
 
@@ -27,7 +25,6 @@ SIDE = ("aap", "ap", "commands", "rows")
 
 
 def row_of(cost: EntryCost, width: int, banks: int, words: int) -> list:
-    """A row of the table of one file."""
     if cost.stuck:
         return [cost.name, width, "", "", "", banks, "", "", "", cost.stuck]
     each = cost.commands / (64 * words)
@@ -64,31 +61,19 @@ def side_by_side(paths: list[str], widths: list[int], found: Costs) -> Rows:
 def beside(name: str, width: int, paths: list[str], found: Costs) -> list:
     """The cells of an entry at a width: empty where a file has no such entry, and why where it is stuck."""
     costs = [next((cost for cost in found[path, width] if cost.name == name), None) for path in paths]
+    known = [cost is not None and not cost.stuck for cost in costs]
     cells: list = []
-    for k, cost in enumerate(costs):
-        cells += cells_of(cost) + ([ratio(cost, costs[0])] if k else [])
+    for k, (cost, is_known) in enumerate(zip(costs, known)):
+        cells += [cost.aap, cost.ap, cost.commands, cost.rows] if is_known else [cost.stuck if cost else "", "", "", ""]
+        has_ratio = is_known and known[0] and costs[0].commands
+        cells += [f"{cost.commands / costs[0].commands:.3f}" if has_ratio else ""] * (k > 0)
     return cells
-
-
-def cells_of(cost: EntryCost | None) -> list:
-    """The cells of one file's entry."""
-    if cost is None or cost.stuck:
-        return [cost.stuck if cost else "", "", "", ""]
-    return [cost.aap, cost.ap, cost.commands, cost.rows]
-
-
-def ratio(cost: EntryCost | None, first: EntryCost | None) -> str:
-    """Its commands divided by the first file's, where both have some."""
-    if cost is None or first is None or cost.stuck or first.stuck or not first.commands:
-        return ""
-    return f"{cost.commands / first.commands:.3f}"
 
 
 def of_ops(found: Costs, names: list[str]) -> Costs:
     """The costs of these entries alone, or of all where none is named."""
     there = list(dict.fromkeys(cost.name for costs in found.values() for cost in costs))
-    unknown = [name for name in names if name not in there]
-    if unknown:
+    if unknown := [name for name in names if name not in there]:
         raise Fault(f"no entry is called {unknown[0]}; the entries: {', '.join(there) or 'none'}")
     return {key: [cost for cost in costs if not names or cost.name in names] for key, costs in found.items()}
 
@@ -98,8 +83,7 @@ def with_columns(rows: Rows, chosen: list[str]) -> Rows:
     head = [str(name).replace(" ", "_") for name in rows[0]]
     known = list(dict.fromkeys(name.rpartition("_")[2] if name not in HEAD and name.rpartition("_")[2] in (*SIDE, "ratio") else name
                                for name in head))
-    unknown = [name for name in chosen if name not in head and name not in known]
-    if unknown:
+    if unknown := [name for name in chosen if name not in head and name not in known]:
         raise Fault(f"--columns takes {', '.join(known[2:])}, and not {unknown[0]}")
     kept = [0, 1, *(k for k, name in enumerate(head) if k > 1 and (name in chosen or name.rpartition("_")[2] in chosen))]
     return [[row[k] for k in kept] for row in rows]

@@ -23,7 +23,6 @@ class EntryCost:
 
     @property
     def commands(self) -> int:
-        """AAP and AP together."""
         return self.aap + self.ap
 
     def __str__(self) -> str:
@@ -31,7 +30,6 @@ class EntryCost:
 
 
 def cost_of(line: str) -> EntryCost:
-    """The cost that a line of `cost` says."""
     name, *words = line.split()
     if words and words[0] == "bad_walk":
         return EntryCost(name, stuck=" ".join(words))

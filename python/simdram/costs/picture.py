@@ -89,9 +89,7 @@ def powers_of_ten(first: float, last: float) -> list[float]:
 
 def number(value: float) -> str:
     """A number as it is shown: whole ones with commas, great and small ones by their power of ten."""
-    if value == int(value) and abs(value) < 1e15:
-        return f"{int(value):,}"
-    return f"{float(value):.4g}"
+    return f"{int(value):,}" if value == int(value) and abs(value) < 1e15 else f"{float(value):.4g}"
 
 
 def stepped(reach: float, most: int) -> list[float]:

@@ -13,11 +13,9 @@ import argparse
 import itertools
 import typing
 
-from ..launcher.faults import Fault
-from ..launcher.say import say
-from ..launcher.settings import Settings
-from ..launcher.tool_parser import Asked, flag, option, tool
-from ..launcher.widths import widths_of
+from ..launcher.streams import say
+from ..launcher.tool_parser import Asked, Fault, Settings, flag, option, tool
+from ..launcher.words import widths_of
 from . import formulas, picture
 from .cost_table import labels_of, names_of, of_ops
 from .costs import EntryCost, costs_until_stuck
@@ -33,8 +31,7 @@ def entries_of(path: str, widths: list[int], found: dict) -> dict[str, list[Entr
     made = {}
     for k, cost in enumerate(found[path, widths[0]]):
         costs = [found[path, n][k] for n in widths]
-        stuck = next((f"{one.stuck} at n = {n}" for n, one in zip(widths, costs) if one.stuck), "")
-        if stuck:
+        if stuck := next((f"{one.stuck} at n = {n}" for n, one in zip(widths, costs) if one.stuck), ""):
             say(f"{cost.name} is left out: its execution is stuck, {stuck}")
         else:
             made[cost.name] = costs
@@ -59,15 +56,6 @@ def drawn_of(words: list[str], widths: list[int]) -> Counts:
     if len(pairs) != len(words) or not all(pairs):
         raise Fault("each --curve and --ceiling is NAME=FORMULA, with another name each")
     return {name: [formulas.value(text, n) for n in widths] for name, text in pairs.items()}
-
-
-def ceilings_of(words: list[str], found: Counts, widths: list[int]) -> Counts:
-    """The values of ceilings, each of an entry that is drawn."""
-    made = drawn_of(words, widths)
-    unknown = [name for name in made if name not in found]
-    if unknown:
-        raise Fault(f"--ceiling names {unknown[0]}, and these are drawn: {', '.join(found)}")
-    return made
 
 
 class Lines(typing.NamedTuple):
@@ -118,5 +106,8 @@ def main(asked: Asked, settings: Settings) -> None:
     widths = sorted(widths_of(asked.widths or f"1-{asked.to}"))
     others = drawn_of(asked.curve, widths)
     found = curves(list(dict.fromkeys(progs)), names_of(asked.ops), widths, asked.column, settings)
-    lines = Lines(widths, asked.log).all(found, ceilings_of(asked.ceiling, found, widths), others)
+    ceilings = drawn_of(asked.ceiling, widths)
+    if unknown := [name for name in ceilings if name not in found]:
+        raise Fault(f"--ceiling names {unknown[0]}, and these are drawn: {', '.join(found)}")
+    lines = Lines(widths, asked.log).all(found, ceilings, others)
     picture.write(Picture(lines, "width n", COLUMNS[asked.column], is_high_log=asked.log), out, settings)

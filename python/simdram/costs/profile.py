@@ -6,24 +6,22 @@ which the code can jump. Commands that implement several statements in one loop 
 `times` says how often a part is executed; without an operation text there are parts alone. Counts are those of one bank.
 """
 
-import csv
 import dataclasses
-import io
+import typing
 
 from ..assembler.walks import executions
 from ..files.program import AAP, Entry, Program
 from ..files.store import folder_of, load
 from ..launcher import run_program
 from ..launcher.commands import MAGIC
-from ..launcher.faults import Fault
-from ..launcher.settings import Settings
-from ..launcher.tool_parser import Asked, flag, option, tool
-from ..launcher.widths import widths_of
+from ..launcher.tool_parser import Asked, Fault, Settings, flag, option, tool
+from ..launcher.words import widths_of
 from ..rules.answer import first_breach
 from ..rules.ops_rules import read_ops
 from ..steps.code_parts import Part, parts
 from ..steps.op_texts import OpText, of_entries
 from .costs import EntryCost, costs_at
+from .table_formats import as_csv
 
 CSV_HEAD = ("name", "width", "kind", "what", "times", "aap", "ap", "commands", "share")
 
@@ -39,7 +37,6 @@ class Row:
 
     @property
     def commands(self) -> int:
-        """AAP and AP together."""
         return self.aap + self.ap
 
 
@@ -77,7 +74,6 @@ def table(head: list[str], rows: tuple[Row, ...], whole: int) -> list[str]:
 
 
 def row_of(part: Part, times: list[int]) -> Row:
-    """What a part takes."""
     commands = [(one.kind == AAP, times[part.first + k]) for k, one in enumerate(part.code) if one.rows]
     aap, ap = (sum(count for is_aap, count in commands if is_aap == kind) for kind in (True, False))
     return Row(part.title(), aap, ap, times[part.first])
@@ -96,10 +92,7 @@ def profile(entry: Entry, width: int, cost: EntryCost, text: OpText | None = Non
     """An entry's profile at a width, by the statements of its operation text where that is given."""
     if cost.stuck:
         return Profile(entry.name, width, cost)
-    found = parts(entry.code)
-    if text:
-        found = text.parts(found)
-    times = executions(entry.code, width)
+    found, times = text.parts(parts(entry.code)) if text else parts(entry.code), executions(entry.code, width)
     rows = [row_of(part, times) for part in found]
     counted = (sum(row.aap for row in rows), sum(row.ap for row in rows))
     if counted != (cost.aap, cost.ap):
@@ -133,18 +126,13 @@ def of_file(path: str, widths: list[int], settings: Settings, ops: str | None = 
         return profiles(f"{folder}/prog", widths, settings, path, True)
 
 
-def as_csv(found: list[Profile]) -> str:
-    """All profiles with commas."""
-    text = io.StringIO()
-    writer = csv.writer(text, lineterminator="\n")
-    writer.writerow(CSV_HEAD)
-    for one in found:
-        for kind, rows in (("statement", one.statements), ("part", one.parts)):
-            for row in rows:
-                part = row.commands / one.cost.commands if one.cost.commands else 0
-                writer.writerow([one.name, one.width, kind, row.what, row.times if kind == "part" else "", row.aap, row.ap,
-                                 row.commands, f"{part:.6f}"])
-    return text.getvalue()
+def csv_rows(one: Profile) -> typing.Iterator[list]:
+    """The rows of a profile under `CSV_HEAD`."""
+    for kind, rows in (("statement", one.statements), ("part", one.parts)):
+        for row in rows:
+            share = row.commands / one.cost.commands if one.cost.commands else 0
+            times = row.times if kind == "part" else ""
+            yield [one.name, one.width, kind, row.what, times, row.aap, row.ap, row.commands, f"{share:.6f}"]
 
 
 @tool(option("file", "OPS|PROG"),
@@ -158,4 +146,5 @@ def main(asked: Asked, settings: Settings) -> None:
     if asked.op and asked.op not in names:
         raise Fault(f"{asked.file} has no entry {asked.op}: it has {', '.join(names) or 'none'}")
     found = [one for one in found if asked.op in (None, one.name)]
-    print(as_csv(found) if asked.csv else "".join(f"{one}\n" for one in found), end="")
+    rows = [list(CSV_HEAD), *(row for one in found for row in csv_rows(one))]
+    print(as_csv(rows) if asked.csv else "".join(f"{one}\n" for one in found), end="")

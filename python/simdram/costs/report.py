@@ -15,10 +15,8 @@ import typing
 from ..files.image import HEAD_MAX, Table
 from ..files.store import load
 from ..launcher.commands import MAGIC
-from ..launcher.faults import Fault
 from ..launcher.overwrite import content
-from ..launcher.settings import Settings
-from ..launcher.tool_parser import Asked, flag, option, tool
+from ..launcher.tool_parser import Asked, Fault, Settings, flag, option, tool
 from ..rules.script_rules import Instruction, loaded_script
 from .table_formats import as_text
 
@@ -56,15 +54,11 @@ def in_banks(found: dict, script: Script, table: Table) -> None:
 
 
 def instruction_of(line: str) -> dict | None:
-    """What a line says of an instruction."""
-    match = OK.fullmatch(line)
-    if match:
+    if match := OK.fullmatch(line):
         return {"number": int(match[1]), "status": "ok", "aap": int(match[2]), "ap": int(match[3])}
-    match = PRINTED.fullmatch(line)
-    if match:
+    if match := PRINTED.fullmatch(line):
         return {"number": int(match[1]), "status": "printed", "name": match[2], "values": [int(value) for value in match[3].split()]}
-    match = REFUSED.fullmatch(line)
-    if match:
+    if match := REFUSED.fullmatch(line):
         return {"number": int(match[1]), "status": "refused", "word": match[2],
                 "at": [int(word) if word.isdigit() else word for word in match[3].split()]}
     return None
@@ -85,8 +79,12 @@ def object_of(text: str, table: Table | None = None, script: Script | None = Non
             raise Fault(f"line {number} is no line of a report: {line[:80]!r}")
     if made["totals"] is None:
         raise Fault("the report has no line of totals: the command did not end with status 0 or 8")
-    if table:
-        made["totals"].update(host_rows(made["totals"], table))
+    if table:  # without the rows of the simulator's own opening and storing of the image
+        own = table.banks * table.rows
+        rows = {f"host_{name}": made["totals"][name] - own for name in ("writes", "reads")}
+        if min(rows.values()) < 0:
+            raise Fault(f"the report has fewer writes or reads than the {own} rows of the image: it is of another image")
+        made["totals"].update(rows)
     numbers = [found["number"] for found in made["instructions"]]
     if script and numbers != list(range(1, len(script.instructions) + 1)):
         raise Fault(f"the report is of other instructions than the script's, which are 1 to {len(script.instructions)}")
@@ -95,26 +93,11 @@ def object_of(text: str, table: Table | None = None, script: Script | None = Non
     return made
 
 
-def host_rows(totals: dict, table: Table) -> dict:
-    """The rows that the script wrote and read: without those of the simulator's own opening and storing of the image."""
-    own = table.banks * table.rows
-    rows = {"host_writes": totals["writes"] - own, "host_reads": totals["reads"] - own}
-    if min(rows.values()) < 0:
-        raise Fault(f"the report has fewer writes or reads than the {own} rows of the image: it is of another image")
-    return rows
-
-
 def cell(found: dict, name: str) -> str:
     if name == "status" and found["status"] == "refused":
         return " ".join(["refused", found["word"], *map(str, found["at"])])
     given = found.get(name, "")
     return f"{given:.6g}" if isinstance(given, float) else str(given)
-
-
-def table_of(made: dict) -> str:
-    """The report as a table, with the sums over all banks last."""
-    rows = [list(COLUMNS), *([cell(found, name) for name in COLUMNS] for found in made["instructions"])]
-    return as_text(rows) + "all banks: " + " ".join(f"{name}={number}" for name, number in made["totals"].items())
 
 
 def text_of(report: str | None) -> str:
@@ -137,4 +120,6 @@ def main(asked: Asked, _settings: Settings) -> None:
     table = Table.read(load(asked.image, "image")[:HEAD_MAX], asked.image) if asked.image else None
     script = Script.load(asked.script) if asked.script else None
     made = object_of(text_of(asked.report), table, script)
-    print(json.dumps(made, indent=1) if asked.json else table_of(made))
+    rows = [list(COLUMNS), *([cell(found, name) for name in COLUMNS] for found in made["instructions"])]
+    totals = " ".join(f"{name}={number}" for name, number in made["totals"].items())
+    print(json.dumps(made, indent=1) if asked.json else f"{as_text(rows)}all banks: {totals}")

@@ -7,10 +7,8 @@ program file can be written by hand with a comment for each instruction, such as
 import re
 
 from ..launcher.commands import MAGIC
-from ..launcher.faults import Fault
 from ..launcher.overwrite import write
-from ..launcher.settings import Settings
-from ..launcher.tool_parser import Asked, tool
+from ..launcher.tool_parser import Asked, Fault, Settings, tool
 from .store import load
 
 BYTES = re.compile("(?:[0-9a-fA-F]{2})+")
@@ -21,8 +19,7 @@ def bytes_in(note: str) -> bytes:
     found = bytearray()
     for number, line in enumerate(load(note).decode("utf-8", "replace").split("\n"), 1):
         words = line.partition("#")[0].split()
-        wrong = next((word for word in words if not BYTES.fullmatch(word)), None)
-        if wrong is not None:
+        if (wrong := next((word for word in words if not BYTES.fullmatch(word)), None)) is not None:
             raise Fault(f"{note} line {number}: {wrong[:SHOWN]!r} is not a sequence of bytes of two hexadecimal digits each")
         found += bytes.fromhex("".join(words))
     return bytes(found)

@@ -73,18 +73,15 @@ class Table:
         banks = fields.within(2, *BANKS, "geometry", "the number of banks")
         rows = fields.within(2, *ROWS, "geometry", "the number of rows")
         words = fields.within(2, *WORDS, "geometry", "the number of words")
-        wrong = geometry_fault(banks, rows, words)
-        if wrong:
+        if wrong := geometry_fault(banks, rows, words):
             raise fields.fault("geometry", wrong)
         return Table(banks, rows, words, read_table(fields, banks, rows, words))
 
     def head(self, magic: bytes) -> bytes:
-        """The head of an image or a trace."""
         head = HEAD.pack(magic, 1, self.banks, self.rows, self.words, len(self.objects))
         return head + b"".join(name_field(one.name) + RECORD.pack(one.width, one.base, one.count) for one in self.objects)
 
     def find(self, name: str) -> Object | None:
-        """The object of this name, if there is one."""
         return next((one for one in self.objects if one.name == name), None)
 
     def copy(self) -> "Table":
@@ -130,15 +127,13 @@ class Table:
 
 
 def read_table(fields: Fields, banks: int, rows: int, words: int) -> list[Object]:
-    """The table of objects of an image or a trace."""
     objects: list[Object] = []
     for _ in range(fields.within(2, 0, OBJECTS, "object", "the number of objects")):
         name = fields.name("object", {one.name for one in objects})
         width = fields.within(1, *WIDTHS, "object", f"the width of {name}")
         base = fields.within(2, 0, rows - SPILL_ROWS - width, "object", f"the base of {name}, of {width} rows,")
         made = Object(name, width, base, 0)
-        met = next((one.name for one in objects if one.meets(made)), None)
-        if met is not None:
+        if (met := next((one.name for one in objects if one.meets(made)), None)) is not None:
             raise fields.fault("overlap", f"{name} has rows {base} to {made.past - 1}, and {met} has one of them")
         made.count = fields.within(4, 1, 64 * words * banks, "object", f"the count of {name}")
         objects.append(made)
@@ -173,8 +168,7 @@ class Image(Table):
 
     def __init__(self, banks: int, rows: int, words: int, objects: typing.Iterable[Object] = (),
                  contents: bytes | None = None) -> None:
-        wrong = geometry_fault(banks, rows, words)
-        if wrong:
+        if wrong := geometry_fault(banks, rows, words):
             raise ValueError(wrong)
         super().__init__(banks, rows, words, list(objects))
         self.contents = bytearray(contents if contents is not None else 8 * banks * rows * words)
@@ -196,12 +190,10 @@ class Image(Table):
         return self.head(MAGIC) + bytes(self.contents)
 
     def save(self, path: str) -> None:
-        """Writes the image file."""
         store(path, self.file())
 
     def find(self, name: str) -> Object:
-        found = super().find(name)
-        if found:
+        if found := super().find(name):
             return found
         names = ", ".join(found.name for found in self.objects)
         raise NoObject(f"no object {name}: there are {names}" if names else f"no object {name}: the image has none")
@@ -216,8 +208,7 @@ class Image(Table):
             raise NoRoom("too_large", f"{name} has {count} elements, and there is room for 1 to {self.room}")
         if not WIDTHS[0] <= width <= WIDTHS[1]:
             raise NoRoom("bad_number", f"{name} has {width} bits, and an object has {WIDTHS[0]} to {WIDTHS[1]}")
-        base = self.least_free(width)
-        if base is None:
+        if (base := self.least_free(width)) is None:
             raise NoRoom("no_rows", f"{name} needs {width} adjacent rows, and the longest free piece has {self.longest()}")
         self.objects.append(Object(name, width, base, count))
         return self.objects[-1]
@@ -236,9 +227,9 @@ class Image(Table):
         width = width or found.width
         size = columns.size_of(width)
         for bank in range(self.banks):
-            kept = max(0, min(self.columns, found.count - bank * self.columns))
-            if kept:
-                rows = [self._row(bank, found.base + low + k) for k in range(width)]
+            if kept := max(0, min(self.columns, found.count - bank * self.columns)):
+                places = [self.place(bank, found.base + low + k) for k in range(width)]
+                rows = [int.from_bytes(self.contents[at:at + 8 * self.words], "little") for at in places]
                 cells.append(columns.cells_of(rows, kept, size))
         return b"".join(cells), size
 
@@ -263,10 +254,6 @@ class Image(Table):
             raise ValueError(f"{name} has {found.count} elements, and {len(values)} values are given")
         check_range(found, values)
         self.set_cells(name, columns.cells_with(values, columns.size_of(found.width)))
-
-    def _row(self, bank: int, row: int) -> int:
-        at = self.place(bank, row)
-        return int.from_bytes(self.contents[at:at + 8 * self.words], "little")
 
 
 def check_range(found: Object, values: typing.Sequence[int]) -> None:

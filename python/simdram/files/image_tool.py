@@ -20,12 +20,10 @@ import re
 import sys
 import typing
 
-from ..launcher.faults import Fault
 from ..launcher.overwrite import write
-from ..launcher.settings import Settings
-from ..launcher.tool_parser import about
+from ..launcher.tool_parser import Fault, Settings, about
 from . import numbers
-from .fault import FileFault
+from .store import FileFault
 from .image import Image, NoObject, NoRoom, OutOfRange
 
 OBJECT = re.compile(r"([A-Za-z_][A-Za-z0-9_]{0,15}):(\d+)(?:=(-?\d+(?:,-?\d+)*),?|/(\d+))")
@@ -39,8 +37,7 @@ class WordsFault(Fault):
 
 def make(geometry: str, words: typing.Sequence[str]) -> Image:
     """The image of a geometry, as text, and of objects, as the words say them."""
-    match = re.fullmatch(r"(\d+)x(\d+)x(\d+)", geometry)
-    if not match:
+    if not (match := re.fullmatch(r"(\d+)x(\d+)x(\d+)", geometry)):
         raise WordsFault(f"{geometry} is not BANKSxROWSxWORDS, such as 1x96x1")
     try:
         image = Image(*map(int, match.groups()))
@@ -54,9 +51,7 @@ def make(geometry: str, words: typing.Sequence[str]) -> Image:
 
 
 def add(image: Image, word: str) -> None:
-    """Adds the object that a word says."""
-    match = OBJECT.fullmatch(word)
-    if not match:
+    if not (match := OBJECT.fullmatch(word)):
         raise WordsFault(f"{word} is no NAME:WIDTH=V1,V2,.. and no NAME:WIDTH/COUNT; numbers are in decimal digits")
     name, width, values, count = match.groups()
     if values is None:
@@ -104,7 +99,6 @@ def put(path: str, name: str, file: str) -> bytes:
 
 
 def main(words: typing.Sequence[str], settings: Settings) -> int:
-    """Does what the words say."""
     if {"--help", "-h"} & set(words[:2]):
         print(about(__name__).rstrip())
     else:

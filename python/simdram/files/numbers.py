@@ -14,8 +14,7 @@ import struct
 import sys
 
 from . import columns
-from .fault import FileFault
-from .store import load
+from .store import FileFault, load
 
 ARRAY_MAGIC = b"\x93NUMPY"
 KIND = re.compile(r"([<>|=])([buif?OcSUV])(\d*)")
@@ -68,20 +67,14 @@ def of_table(text: str, path: str) -> list[int]:
         raise FileFault(path, "line 1", "names", said)
     words = rest.replace(",", " ").split()
     if rest.count(",") != len(words) // 2 or words[::2] != [str(k) for k in range((len(words) + 1) // 2)]:
-        _check_elements(rest, path)
+        lines = [(at, line.strip()) for at, line in enumerate(rest.splitlines(), 2) if line.strip()]
+        wrong = ((k, *one) for k, one in enumerate(lines) if not re.fullmatch(rf"{k}\s*,\s*[^\s,]+", one[1]))
+        for k, at, line in wrong:
+            raise FileFault(path, f"line {at}", "element", f"{ascii(line[:40])} where `{k},VALUE` is wanted")
     return of_text(rest, path, 2)[1::2]
 
 
-def _check_elements(rest: str, path: str) -> None:
-    """Refuses the first line that is not its element's number, a comma and a value."""
-    lines = [(at, line.strip()) for at, line in enumerate(rest.splitlines(), 2) if line.strip()]
-    for k, (at, line) in enumerate(lines):
-        if not re.fullmatch(rf"{k}\s*,\s*[^\s,]+", line):
-            raise FileFault(path, f"line {at}", "element", f"{ascii(line[:40])} where `{k},VALUE` is wanted")
-
-
 def of_array(data: bytes, path: str, width: int, count: int) -> list[int]:
-    """The numbers of an array file."""
     kind, in_columns, shape, start = _head(data, path)
     match = KIND.fullmatch(kind)
     if not match or match[2] + match[3] not in CODES:

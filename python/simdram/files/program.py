@@ -5,9 +5,8 @@ import re
 import typing
 
 from . import decode
-from .fault import FileFault
+from .store import FileFault, load
 from .fields import Fields, name_field
-from .store import load
 
 MAGIC = b"SDMP"
 REGISTERS, SPILLS, CONSTANTS = 8, 32, 2
@@ -37,16 +36,12 @@ class Row(typing.NamedTuple):
         """Whether it is a row of an operand or of scratch, and no address of the designated or the constant rows."""
         return self.space not in (B_ADDRESS, C_ADDRESS)
 
-    @property
-    def subscript(self) -> str:
-        """The index as a listing has it."""
-        return "0" if self.index == REGISTERS else f"r{self.index}"
-
     def __str__(self) -> str:
         """Its name in a listing."""
         name = ("B{}", "C{}", "yz", "s{}", "t{}", "w{}", "p{}")[self.space]
         name = name[self.which] if self.space == RESULT else name.format(self.which)
-        return f"{name}[{self.subscript}]" if self.space in INDEXED else name
+        index = "0" if self.index == REGISTERS else f"r{self.index}"
+        return f"{name}[{index}]" if self.space in INDEXED else name
 
 
 @dataclasses.dataclass(frozen=True)
@@ -176,7 +171,6 @@ def read_directory(fields: Fields, version: int) -> list[tuple[Entry, int]]:
 
 
 def read_kinds(fields: Fields, version: int, name: str, count: int) -> tuple[tuple[str, ...], ...]:
-    """The kinds of the sources and of the results."""
     byte = fields.number(1)
     second = byte >> 5 & 1
     spare = byte >> 7 or (byte & 15) >> count or (second and version == 1) or (not second and byte >> 6 & 1)
@@ -193,30 +187,34 @@ def read_instruction(fields: Fields, head: Entry, count: int, at: int) -> Instru
     if raw[0] >= len(NAMES):
         raise fields.fault("instruction", f"{where} is of kind {raw[0]}")
     one = Instruction(raw[0], raw)
-    wrong = wrong_operand(one)
-    if wrong:
-        raise fields.fault("instruction", f"{where}, {one.name}, {wrong}")
-    if one.kind == BNEZ and one.number >= count:
-        raise fields.fault("target", f"{where} jumps to {one.number}, and the entry has {count} instructions")
-    wrong = wrong_rows(one.rows, head)
-    if wrong:
-        raise fields.fault("row", f"{where}, {one.name}: {wrong}")
-    if at == count - 1 and one.kind != DONE:
-        raise fields.fault("no_done", f"{where} is the last and not DONE")
+    for word, wrong in faults_of(one, head, count, at):
+        raise fields.fault(word, f"{where}{wrong}")
     return one
 
 
-def wrong_operand(one: Instruction) -> str | None:
-    """What is wrong with the registers, the number or the unnamed bytes of an instruction, or nothing."""
-    operands = OPERANDS[one.kind]
+def faults_of(one: Instruction, head: Entry, count: int, at: int) -> typing.Iterator[tuple[str, str]]:
+    """What is wrong with an instruction: registers, number and unnamed bytes, target, rows, and that it is the last."""
+    operands, named = OPERANDS[one.kind], NAMED[one.kind]
     for letter, register in (("r", one.register), ("s", one.other)):
         if letter in operands and register >= REGISTERS:
-            return f"names register {register}; registers are 0 to {REGISTERS - 1}"
+            yield "instruction", f", {one.name}, names register {register}; registers are 0 to {REGISTERS - 1}"
     if "k" in operands and one.number > LARGEST:
-        return f"has the number {one.number}; numbers are 0 to {LARGEST}"
-    named = NAMED[one.kind]
-    spare = next((at for at in range(named, len(one.raw)) if one.raw[at]), None)
-    return None if spare is None else f"has {one.raw[spare]} in byte {spare}, which is not named there and has to be 0"
+        yield "instruction", f", {one.name}, has the number {one.number}; numbers are 0 to {LARGEST}"
+    for spare in (spare for spare in range(named, len(one.raw)) if one.raw[spare]):
+        yield "instruction", f", {one.name}, has {one.raw[spare]} in byte {spare}, which is not named there and has to be 0"
+    if one.kind == BNEZ and one.number >= count:
+        yield "target", f" jumps to {one.number}, and the entry has {count} instructions"
+    for number, row in enumerate(one.rows, 1):
+        if wrong := wrong_row(row, head):
+            yield "row", f", {one.name}: row {number} {wrong}"
+    first, *others = one.rows or [None]
+    if first and first.space == B_ADDRESS and not decode.legal_first("B", first.which):
+        yield "row", f", {one.name}: row 1 is {first}: B8 to B11 raise two wordlines, and only the second row may be one of them"
+    for row in (row for row in others if row.space in (C_ADDRESS, SOURCE)):
+        what = "constant" if row.space == C_ADDRESS else "source"
+        yield "row", f", {one.name}: row 2 is {row}, a {what}; no command may write it"
+    if at == count - 1 and one.kind != DONE:
+        yield "no_done", " is the last and not DONE"
 
 
 def counted(count: int, what: str) -> str:
@@ -239,25 +237,3 @@ def wrong_row(row: Row, head: Entry) -> str | None:
     if row.space not in INDEXED and row.index:
         return f"is a {what} with index byte {row.index}; it takes no index, so the byte is 0"
     return None
-
-
-def wrong_place(rows: typing.Sequence[Row]) -> str | None:
-    """What is wrong with where the rows of a command stand, or nothing."""
-    first, *others = rows
-    if first.space == B_ADDRESS and not decode.legal_first("B", first.which):
-        return f"row 1 is {first}: B8 to B11 raise two wordlines, and only the second row may be one of them"
-    for second in others:
-        if second.space == C_ADDRESS:
-            return f"row 2 is {second}, a constant; no command may write it"
-        if second.space == SOURCE:
-            return f"row 2 is {second}, a source; no command may write it"
-    return None
-
-
-def wrong_rows(rows: typing.Sequence[Row], head: Entry) -> str | None:
-    """What is wrong with the rows of a command, or nothing."""
-    for number, row in enumerate(rows, 1):
-        wrong = wrong_row(row, head)
-        if wrong:
-            return f"row {number} {wrong}"
-    return wrong_place(rows) if rows else None

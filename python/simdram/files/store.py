@@ -6,13 +6,38 @@ as the program does it. So a kill or a full disk leaves the old file or the new 
 
 import contextlib
 import errno
+import itertools
 import os
 import shutil
 import stat
 import tempfile
 import typing
 
-from .fault import FileFault, NotWritten, TooLong
+
+class FileFault(Exception):
+    """A file that is refused: its path, the place in it, the word of the rule, and what is wrong in a sentence.
+
+    The place is `byte 6` or `line 3`, or empty where the fault is of the whole file. The status is that of the program.
+    """
+
+    status = 2
+
+    def __init__(self, path: str, place: str, word: str, what: str) -> None:
+        super().__init__(": ".join(part for part in (str(path), " ".join((place, word)).strip(), what) if part))
+        self.path, self.place, self.word, self.what = str(path), place, word, what
+
+
+class NotWritten(FileFault):
+    """A file that cannot be written."""
+
+    status = 3
+
+
+class TooLong(FileFault):
+    """A file of more bytes than its kind may have."""
+
+    status = 11
+
 
 # the most bytes of a file of each kind, as the program has them; of others, such as numbers and netlists, the last
 LIMITS = {"ops": 65_536, "query": 65_536, "flips": 1_048_576, "script": 16_777_216, "image": 67_115_022, "trace": 67_115_026,
@@ -132,13 +157,11 @@ def folder_of(**files: bytes) -> typing.Iterator[str]:
 
 def free_name(path: str) -> str:
     """The first of NAME~, NAME~2, NAME~3 .. that nothing stands under, not even a link: an empty file stands there now."""
-    number = 1
-    while True:
+    for number in itertools.count(1):
         name = f"{path}~{number if number > 1 else ''}"
         with contextlib.suppress(FileExistsError):
             open(name, "xb").close()
             return name
-        number += 1
 
 
 def keep(path: str, name: str = "") -> str:
@@ -156,16 +179,3 @@ def keep(path: str, name: str = "") -> str:
         finally:
             os.close(folder)
     return kept
-
-
-def holds_same(first: str, second: str) -> bool:
-    """Whether two files hold the same bytes."""
-    with open(first, "rb") as one, open(second, "rb") as other:
-        if os.fstat(one.fileno()).st_size != os.fstat(other.fileno()).st_size:
-            return False
-        while True:
-            block = one.read(BLOCK)
-            if block != other.read(BLOCK):
-                return False
-            if not block:
-                return True

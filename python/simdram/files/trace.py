@@ -106,10 +106,8 @@ class Trace(Table):
     @staticmethod
     def _check_places(fields: Fields, kind: str, addresses: tuple[Address, ...]) -> None:
         """A write goes to a data row; two lines are not activated first, and C rows are not written."""
-        if kind == WRITE:
-            if addresses[0].group != "D":
-                raise fields.fault("event", f"a WRITE goes to a D row, not to {addresses[0]}")
-            return
+        if kind == WRITE and addresses[0].group != "D":
+            raise fields.fault("event", f"a WRITE goes to a D row, not to {addresses[0]}")
         if not decode.legal_first(*addresses[0]):
             raise fields.fault("legal", f"{addresses[0]} raises two wordlines and is never activated first")
         if kind == AAP and not decode.legal_second(addresses[1].group):

@@ -1,7 +1,6 @@
 """Prints a trace file as text, one line for each event, such as `bank 0 AAP D8 B8`."""
 
-from ..launcher.settings import Settings
-from ..launcher.tool_parser import Asked, tool
+from ..launcher.tool_parser import Asked, Settings, tool
 from .store import load
 from .trace import Trace
 

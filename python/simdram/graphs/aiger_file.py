@@ -113,7 +113,6 @@ class Reader:
         return self.netlist(own, latches, outputs, gates, self.symbols())
 
     def netlist(self, own, latches, outputs, gates, symbols: dict[str, str]) -> Netlist:
-        """The netlist of what was read."""
         net = Netlist(self.path.rpartition("/")[2].partition(".")[0] or "block")
         names = {0: FALSE}
         for k, variable in enumerate(own):
@@ -134,7 +133,6 @@ class Reader:
         return net
 
     def tables(self, net: Netlist, names: dict[int, str], gates, targets) -> None:
-        """The tables of gates and outputs."""
         for literal in [one for _, *both in gates for one in both] + [one for _, one in targets]:
             if literal >> 1 not in names:
                 raise Fault(f"{self.path}: the literal {literal} is no input, latch or gate")

@@ -9,11 +9,10 @@ import itertools
 import re
 import typing
 
-from ..files.decode import CELLS, RAISED
-from ..files.program import B_ADDRESS, C_ADDRESS, Row
+from ..files.decode import CELLS
 from ..launcher.faults import Fault
 from ..launcher.settings import Settings
-from ..rules.op_shapes import OpShape, Statement
+from ..rules.op_tree import OpShape, StatementShape, head_text
 from ..rules.ops_rules import RESULTS, SOURCES, op_shape
 from ..steps import op_texts
 from ..steps.board import Board, done_by, over
@@ -26,7 +25,7 @@ from .mig import ONE, ZERO, Graph
 SUBSCRIPT = re.compile(r"\[i([+-]\d+)?\]$")
 
 
-def read_names(block: Statement) -> list[str]:
+def read_names(block: StatementShape) -> list[str]:
     """The names that a block reads and does not set before: words, bits and states."""
     names = (name for each in (*block.lets.values(), *block.assignments.values()) for name in each.names())
     return [name for name in dict.fromkeys(names) if name not in block.lets]
@@ -37,7 +36,7 @@ def positions_of(name: str, position: int, positions: int) -> str:
     return f"{name}_{position}" if positions > 1 else name
 
 
-def written(block: Statement, shape: OpShape, positions: int = 1) -> Graph:
+def written(block: StatementShape, shape: OpShape, positions: int = 1) -> Graph:
     """The graph of a block as it is written, over so many positions."""
     graph, states = Graph(), {}
     others = [name for name in read_names(block) if name not in block.starts]
@@ -73,44 +72,32 @@ class Compiled(typing.NamedTuple):
 class GraphBoard(Board):
     """A board whose cells and rows hold literals of a graph."""
 
+    constants = (ZERO, ONE)
+
     def __init__(self, part: Part, rows: RowNames, cells: dict[str, int], graph: Graph, name_of) -> None:
         super().__init__(part, rows, Names({}, WIDEST))
         self.cells = {**dict.fromkeys(CELLS), **cells}
         self.graph, self.name_of = graph, name_of
 
-    def read(self, cell: str, inverted: bool):
-        return None if self.cells[cell] is None else self.cells[cell] ^ inverted
+    def turned(self, value: int | None, is_inverted: bool) -> int | None:
+        return None if value is None else value ^ is_inverted
 
-    def sensed(self, row: Row):
-        if row.space == C_ADDRESS:
-            return (ZERO, ONE)[row.which]
-        if row.space != B_ADDRESS:
-            name = self.name(row)
-            if name not in self.rows:
-                self.rows[name] = self.graph.input(self.name_of(name))
-            return self.rows[name]
-        values = [self.read(*line) for line in RAISED[row.which]]
-        value = self.voted(values) if len(values) == 3 else values[0]
-        self.settle(row, value)
-        return value
+    def begun(self, name: str) -> int:
+        return self.graph.input(self.name_of(name))
 
-    def voted(self, values):
+    def voted(self, values: list[int | None]) -> int | None:
         """The majority, where no cell that nothing has set decides it."""
         known = [one for one in values if one is not None]
         if len(known) == 3:
             return self.graph.maj(*values)
         return known[0] if len(known) == 2 and known[0] == known[1] else None
 
-    def settle(self, row: Row, value) -> None:
-        if row.space != B_ADDRESS:
-            self.rows[self.name(row)] = value
-            self.written.add(self.name(row))
-            return
-        for cell, inverted in RAISED[row.which]:
-            self.cells[cell] = None if value is None else value ^ inverted
+    def put(self, name: str, value: int | None) -> None:
+        self.rows[name] = value
+        self.written.add(name)
 
 
-def alone(name: str, block: Statement, shape: OpShape, data: bytes) -> str:
+def alone(name: str, block: StatementShape, shape: OpShape, data: bytes) -> str:
     """The text of an op that is this block alone."""
     takes = [one for one in read_names(block) if one not in block.starts]
     kinds = {**shape.defined, **dict.fromkeys(block.starts, "bit")}
@@ -119,12 +106,11 @@ def alone(name: str, block: Statement, shape: OpShape, data: bytes) -> str:
     if not 1 <= len(takes) <= SOURCES or len(words) > RESULTS:
         raise Fault(f"the block reads {len(takes)} words and bits and sets {len(words)} words; to show its loop there may be "
                     f"1 to {SOURCES}, and at most {RESULTS}")
-    head, tail = (", ".join(f"{one}: {kinds.get(one, 'word')}" for one in names) for names in (takes, gives))
-    text = data[block.first.at:block.last.at + 1].decode()
-    return f"op {name}({head}) -> {tail} {{ {text} }}\n"
+    head = head_text(f"op {name}", *([(one, kinds.get(one, "word")) for one in names] for names in (takes, gives)))
+    return f"{head} {{ {data[block.first.at:block.last.at + 1].decode()} }}\n"
 
 
-def as_compiled(block: Statement, shape: OpShape, data: bytes, settings: Settings) -> Compiled:
+def as_compiled(block: StatementShape, shape: OpShape, data: bytes, settings: Settings) -> Compiled:
     """The graph of the loop that a block is compiled to in its op; where that loop has other statements too, of the loop that
     it is compiled to alone."""
     try:
@@ -133,20 +119,19 @@ def as_compiled(block: Statement, shape: OpShape, data: bytes, settings: Setting
         return of_statement(block, shape, 0, alone(shape.name, block, shape, data).encode(), settings)
 
 
-def of_statement(block: Statement, shape: OpShape, number: int, data: bytes, settings: Settings) -> Compiled:
+def of_statement(block: StatementShape, shape: OpShape, number: int, data: bytes, settings: Settings) -> Compiled:
     """The graph of the loop of a statement of the op as this text has it."""
     text = OpText(op_shape("the operation text", data, shape.name), data)
     found, rows = text.parts(parts(op_texts.compiled(data, settings).find(shape.name).code)), text.names()
     held = over(found, rows)
-    loops = [k for k, part in enumerate(found) if part.loops and number in part.statements]
-    if not loops:
+    if not (loops := [k for k, part in enumerate(found) if part.loops and number in part.statements]):
         raise Fault(f"no loop of {shape.name} is of this block")
     k = next((k for k in loops if found[k].again), loops[0])
     states = {cell: value.text.replace("old ", "").replace("[0]", "") for cell, value in held[k].items()}
     return named(block, shape, found[k], rows, states)
 
 
-def named(block: Statement, shape: OpShape, part: Part, rows: RowNames, states: dict[str, str]) -> Compiled:
+def named(block: StatementShape, shape: OpShape, part: Part, rows: RowNames, states: dict[str, str]) -> Compiled:
     """The graph of a part, where a state that goes to no row, and so has no name of its own in the cells, is found by trying
     which of the block's states it is, or the complement of which: the one with which the graph is that of the block."""
     unnamed = sorted({text.lstrip("~") for text in states.values()} - set(block.starts))
@@ -169,7 +154,7 @@ def renamed(text: str, called: dict[str, tuple[str, bool]]) -> str:
     return f"{'~' if text.startswith('~') != is_turned else ''}{name}"
 
 
-def of_part(block: Statement, shape: OpShape, part: Part, rows: RowNames, states: dict[str, str]) -> Compiled:
+def of_part(block: StatementShape, shape: OpShape, part: Part, rows: RowNames, states: dict[str, str]) -> Compiled:
     """The graph of one execution of a part, whose cells hold these states at its start."""
     offsets = sorted({int(SUBSCRIPT.search(name)[1] or 0) for name in done_by(part, rows, {}).rows if SUBSCRIPT.search(name)},
                      reverse=block.direction == "down")
@@ -188,8 +173,7 @@ def of_part(block: Statement, shape: OpShape, part: Part, rows: RowNames, states
     found = {name_of(name) if SUBSCRIPT.search(name) else f"{name}_next": board.rows[name] for name in board.written}
     found.update((f"{text.lstrip('~')}_next", board.cells[cell] ^ text.startswith("~")) for cell, text in states.items()
                  if f"{text.lstrip('~')}_next" not in found)
-    others = [name for name in graph.inputs if name not in asked.inputs]
-    if others:
+    if others := [name for name in graph.inputs if name not in asked.inputs]:
         raise Fault(f"the loop of {shape.name} reads {others[0]}, which the block as it is written does not read: it has no graph of the block")
     graph.outputs = {name: found[name] for name in asked.outputs if name in found}
     return Compiled(graph, len(offsets), [name for name in asked.outputs if name not in found])

@@ -14,16 +14,13 @@ import re
 import sys
 
 from ..files.store import load
-from ..launcher.faults import Fault
-from ..launcher.settings import Settings
-from ..launcher.tool_parser import Asked, flag, option, tool
+from ..launcher.tool_parser import Asked, Fault, Settings, flag, option, tool
 from ..rules.answer import first_breach
 from ..rules.ops_rules import RESERVED, RESULTS, SOURCES, read_ops
 from ..rules.tokens import NAME_MAX
 from ..rules.word_ops import GATES
 from . import aiger_file
-from .blif_file import Reader
-from .cell_library import cells_in
+from .blif_file import Reader, cells_in
 from .least_gates import LETTER, spelled
 from .least_gates import text as expression
 from .netlist import NEXT, Netlist, in_order
@@ -76,7 +73,6 @@ class Block:
         return self.names.of.get(f"let {signal}") or self.names.name(signal)
 
     def expression(self, signal: str) -> str:
-        """The expression of a signal's table."""
         if signal not in self.net.tables:
             return self.names.name(signal)
         inputs = self.net.tables[signal].inputs
@@ -84,7 +80,6 @@ class Block:
         return expression(function(self.net.tables[signal]), {letter: self.value(one) for letter, one in zip("xyz", inputs) if one in needed})
 
     def text(self, name: str, direction: str) -> str:
-        """The op."""
         # the op's own names come first, so that they are kept where they can be
         ports = [self.names.name(one) for one in (*self.sources, *self.states, *self.words)]
         takes, states = ports[:len(self.sources)], ports[len(self.sources):len(ports) - len(self.words)]
@@ -112,7 +107,6 @@ class Block:
 
 
 def read(path: str, genlib: str | None) -> Netlist:
-    """The netlist of a file."""
     data = load(path)
     if data.startswith(aiger_file.MAGIC):
         return aiger_file.Reader(path, data).read()
@@ -155,7 +149,6 @@ def main(asked: Asked, _settings: Settings) -> None:
     blocks = [Block(one, asked.file, [bit for bit in asked.bit if bit in one.sources],
                     {state: bit for state, bit in starts.items() if state in one.states}, len(nets) == 1) for one in nets]
     text = calls(net, nets, asked.file) + "".join(one.text(one.net.name, "down" if asked.down else "up") for one in blocks)
-    answer = first_breach(asked.file, text.encode(), read_ops)
-    if answer is not None:
+    if (answer := first_breach(asked.file, text.encode(), read_ops)) is not None:
         raise Fault(f"{asked.file}: the op would break a rule, {answer.kind}: {answer.rule}")
     print(text, end="")

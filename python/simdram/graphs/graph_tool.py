@@ -12,11 +12,9 @@ in .aag. Without OUT the graph is printed.
 import sys
 
 from ..files.store import load
-from ..launcher.faults import Fault
 from ..launcher.overwrite import write
-from ..launcher.settings import Settings
-from ..launcher.tool_parser import Asked, flag, option, tool
-from ..rules.op_shapes import OpShape, Statement
+from ..launcher.tool_parser import Asked, Fault, Settings, flag, option, tool
+from ..rules.op_tree import OpShape, StatementShape
 from ..rules.ops_rules import op_shape, shapes_of
 from .block_graph import Compiled, as_compiled, written
 from .mig import as_aiger, as_blif, as_dot, live
@@ -24,7 +22,7 @@ from .mig import as_aiger, as_blif, as_dot, live
 FORMATS = ("dot", "blif", "aiger")
 
 
-def block_of(path: str, data: bytes, name: str | None, number: int) -> tuple[OpShape, Statement]:
+def block_of(path: str, data: bytes, name: str | None, number: int) -> tuple[OpShape, StatementShape]:
     """A block of an op, and the op."""
     with_blocks = [shape for shape in shapes_of(path, data) if any(one.direction for one in shape.statements)]
     if name is None and not with_blocks:

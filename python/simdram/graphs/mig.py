@@ -54,7 +54,6 @@ class Graph:
         return self.nodes[key] ^ turned
 
     def gate(self, name: str, given: typing.Sequence[int]) -> int:
-        """The literal of a gate of the language."""
         if name == "not":
             return given[0] ^ 1
         if name == "maj":
@@ -113,9 +112,7 @@ def table(literals: list[int]) -> list[str]:
     free = [one for one in literals if one > 1]
     bits = [str(1 - (one & 1)) for one in free]
     if len(free) == 2:
-        if 0 in literals:
-            return [f"{''.join(bits)} 1"]
-        return [f"{bits[0]}- 1", f"-{bits[1]} 1"]
+        return [f"{''.join(bits)} 1"] if 0 in literals else [f"{bits[0]}- 1", f"-{bits[1]} 1"]
     return [f"{''.join(bit if k in pair else '-' for k, bit in enumerate(bits))} 1" for pair in itertools.combinations(range(3), 2)]
 
 
@@ -141,7 +138,6 @@ class Ands:
         self.known: dict[tuple[int, int], int] = {}
 
     def both(self, x: int, y: int) -> int:
-        """The literal of an and-gate."""
         x, y = max(x, y), min(x, y)
         if y < 2 or x == y or x == y ^ 1:
             return 0 if y == 0 or x == y ^ 1 else x

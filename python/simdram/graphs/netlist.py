@@ -30,7 +30,6 @@ class Netlist:
 
     @property
     def states(self) -> list[str]:
-        """The inputs that are states."""
         return [one for one in self.inputs if one + NEXT in self.outputs]
 
     @property
@@ -55,8 +54,7 @@ def in_order(net: Netlist, path: str, targets=None) -> list[str]:
             name = waiting[-1]
             left = [] if name in found or name not in net.tables else [one for one in net.tables[name].inputs if one not in found
                                                                         and one in net.tables]
-            looped = next((one for one in left if one in open_ways), None)
-            if looped is not None:
+            if (looped := next((one for one in left if one in open_ways), None)) is not None:
                 raise Fault(f"{path} line {net.tables[looped].line}: {looped} reads itself through other tables")
             if left:
                 open_ways.add(name)

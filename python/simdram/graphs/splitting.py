@@ -47,7 +47,6 @@ class Splitter:
         self.kept: dict[str, Cone] = {}
 
     def pieces(self) -> list[Netlist]:
-        """The netlists."""
         self.spread(())
         for group in self.groups():
             self.states(group)
@@ -86,7 +85,6 @@ class Splitter:
         return Cone(frozenset().union(*(one.leaves for one in cones)), frozenset((name,)).union(*(one.tables for one in cones)))
 
     def fits(self, cone: Cone) -> bool:
-        """Whether an op has room for a cone."""
         return len(cone.leaves) <= SOURCES and sum(weight(self.net.tables[one]) for one in cone.tables) <= WEIGHT
 
     def keep(self, name: str) -> None:

@@ -12,8 +12,8 @@ import time
 
 from . import fast_toolchain
 from .faults import NoProgram
-from .places import TOP, is_top
-from .say import say
+from .settings import TOP, is_top
+from .streams import say
 
 PROVED, UNPROVED = "simdram", "unproved"
 # the folders of a crate that a program is made from
@@ -85,10 +85,10 @@ def compiled(work: pathlib.Path) -> pathlib.Path:
     """The program, compiled in a folder: with optimization, else as `rt try` compiles it."""
     fast, slow = work / "fast", work / "slow"
     fast.mkdir()
-    toolchain = fast_toolchain.made_in(fast / "toolchain")
-    if toolchain:
-        try_program(fast, str(toolchain.rt))
-        if (fast / "copy").exists() and toolchain.mark.exists():
+    if toolchain := fast_toolchain.made_in(fast / "toolchain"):
+        rt, mark = toolchain
+        try_program(fast, str(rt))
+        if (fast / "copy").exists() and mark.exists():
             return fast / "copy"
     say("this toolchain does not compile with optimization: the program will be slow (some 50 times slower than the proved one)")
     slow.mkdir()
@@ -109,16 +109,12 @@ def compile_unproved() -> None:
         except BlockingIOError:
             say("another call compiles the program; waiting for it")
             fcntl.flock(lock, fcntl.LOCK_EX)
-        if is_old(out_folder() / UNPROVED, SOURCES[UNPROVED]):
-            compile_into_place()
-
-
-def compile_into_place() -> None:
-    """Compiles the program, and gives it its name when it is whole."""
-    say("compiling the program without proofs; this takes about a minute, once")
-    began = time.time_ns()
-    with tempfile.TemporaryDirectory(prefix="simdram_build_") as name:
-        copy = compiled(pathlib.Path(name))
-        os.utime(copy, ns=(began, began))
-        shutil.move(str(copy), out_folder() / "unproved.new")
-    os.replace(out_folder() / "unproved.new", out_folder() / UNPROVED)
+        if not is_old(out_folder() / UNPROVED, SOURCES[UNPROVED]):
+            return
+        say("compiling the program without proofs; this takes about a minute, once")
+        began, new = time.time_ns(), out_folder() / "unproved.new"
+        with tempfile.TemporaryDirectory(prefix="simdram_build_") as name:
+            copy = compiled(pathlib.Path(name))
+            os.utime(copy, ns=(began, began))
+            shutil.move(str(copy), new)
+        os.replace(new, out_folder() / UNPROVED)  # it has its name when it is whole

@@ -1,8 +1,7 @@
 """Builds the program without proofs if none is built, and prints the path of the program that runs."""
 
 from . import run_program
-from .settings import Settings
-from .tool_parser import Asked, tool
+from .tool_parser import Asked, Settings, tool
 
 
 @tool()

@@ -8,27 +8,18 @@ import dataclasses
 # the bytes that a file of a kind begins with; texts have none
 MAGIC = {"program": b"SDMP", "image": b"SDMI", "trace": b"SDMT"}
 
-KINDS = {
-    "ops": "an operation text",
-    "program": "a program file",
-    "script": "a script",
-    "image": "an image",
-    "query": "a query",
-    "flips": "a text of flips",
-    "trace": "a trace",
-    "micro": "a text of microprograms",
-}
-# what a file of a kind holds, and the page that has its form
+# what a file of a kind is called, and what it holds, with the page that has its form
 HOLDS = {
-    "ops": "operation text: operations in the operation language (docs/LANGUAGE.md)",
-    "program": "program file: compiled operations (docs/FORMATS.md, Program file)",
-    "script": "script: one instruction per line, such as `bbop_mac y, a, b, c, 4, 8`, where `p[0:8]` is bits of p (docs/FORMATS.md, Script)",
-    "image": "image: the data rows of a chip, and the table of its objects (docs/FORMATS.md, Image file)",
-    "query": "query: such as `and(ge(a, 10), lt(a, 20))` (docs/FORMATS.md, Query)",
-    "flips": "text of flips: the cells to invert, `K BANK ROW COLUMN` per line (docs/FORMATS.md, Flips)",
-    "trace": "trace: recorded row commands and row writes (docs/FORMATS.md, Trace file)",
-    "micro": "text of microprograms: command sequences of a designer's own (docs/MICROPROGRAMS.md)",
+    "ops": ("an operation text", "operations in the operation language (docs/LANGUAGE.md)"),
+    "program": ("a program file", "compiled operations (docs/FORMATS.md, Program file)"),
+    "script": ("a script", "one instruction per line, such as `bbop_mac y, a, b, c, 4, 8`, where `p[0:8]` is bits of p (docs/FORMATS.md, Script)"),
+    "image": ("an image", "the data rows of a chip, and the table of its objects (docs/FORMATS.md, Image file)"),
+    "query": ("a query", "such as `and(ge(a, 10), lt(a, 20))` (docs/FORMATS.md, Query)"),
+    "flips": ("a text of flips", "the cells to invert, `K BANK ROW COLUMN` per line (docs/FORMATS.md, Flips)"),
+    "trace": ("a trace", "recorded row commands and row writes (docs/FORMATS.md, Trace file)"),
+    "micro": ("a text of microprograms", "command sequences of a designer's own (docs/MICROPROGRAMS.md)"),
 }
+KINDS = {kind: called for kind, (called, _) in HOLDS.items()}
 
 
 @dataclasses.dataclass(frozen=True)
@@ -74,11 +65,6 @@ class Command:
     def usage(self) -> str:
         """The command line, with a name for each argument."""
         return self.form or " ".join([self.name, *(word.form for word in self.words), *(f"[{flag}]" for flag, _ in self.flags)])
-
-    def has_all(self, count: int) -> bool:
-        """Whether so many arguments may be all of the command's."""
-        needed = sum(not word.is_optional for word in self.words)
-        return needed <= count <= len(self.words)
 
 
 OPS = Word("OPS", "ops")

@@ -10,7 +10,7 @@ from ..rules.aftermath import Aftermath
 from . import overwrite, run_program
 from .commands import ALL, Command
 from .faults import WRONG
-from .say import say
+from .streams import say
 from .settings import Settings
 from .words import wrong_words
 
@@ -25,8 +25,7 @@ def form(words: list[str]) -> str:
 
 def refused_words(wrong: str, words: list[str], settings: Settings) -> int:
     """A command line that is not a command: the program says so if it is built, and nothing is built for it."""
-    program = run_program.standing(settings)
-    if program:
+    if program := run_program.standing(settings):
         status = run_program.follow(program, words)
     else:
         print("usage", flush=True)
@@ -52,8 +51,7 @@ def tell_unread(command: Command, words: list[str]) -> None:
     """Says which files cannot be read, and why, before anything is done."""
     read = [text for word, text in zip(command.words, words) if word.is_file and not word.is_written]
     for text in dict.fromkeys(read):
-        reason = why_not_read(text)
-        if reason:
+        if reason := why_not_read(text):
             say(f"cannot read {text}: {reason}")
 
 
@@ -70,10 +68,10 @@ def launch(words: list[str], settings: Settings) -> int:
     """Runs a command of the program."""
     command = ALL.get(words[0]) if words else None
     flags = [word for word in words[1:] if word in dict(command.flags)] if command else []
-    is_whole = command is not None and command.is_program and command.has_all(len(words) - 1 - len(flags))
+    needed = [word for word in command.words if not word.is_optional] if command else []
+    is_whole = bool(needed) and command.is_program and len(needed) <= len(words) - 1 - len(flags) <= len(command.words)
     refusal = overwrite.refusal(command, words[1:]) if is_whole and not settings.force else None
-    wrong = wrong_words(words)
-    if wrong:
+    if wrong := wrong_words(words):
         return refused_words(wrong, words, settings)
     words = [word for word in words if word not in flags]
     if refusal:

@@ -8,7 +8,7 @@ import time
 import typing
 
 from . import run_program
-from .say import show
+from .streams import show
 
 Item = typing.TypeVar("Item")
 Result = typing.TypeVar("Result")

@@ -11,9 +11,8 @@ import time
 from .build import PROVED, SOURCES, home, is_old, need_rt, out_folder
 from .faults import NoProgram
 from .minutes import SECONDS, seconds_of
-from .say import say, show
-from .settings import Settings
-from .tool_parser import Asked, tool
+from .streams import say, show
+from .tool_parser import Asked, Settings, tool
 
 INTERRUPTED = 130
 # a crate that took less was proved before

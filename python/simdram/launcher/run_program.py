@@ -13,20 +13,17 @@ import typing
 
 from . import build
 from .faults import Fault, NoProgram
-from .places import TOP
-from .say import is_new_here, say
-from .settings import Settings, taken
+from .settings import TOP, Settings, taken
+from .streams import is_new_here, say
 
 PASSED_ON = (signal.SIGINT, signal.SIGTERM, signal.SIGHUP, signal.SIGQUIT)
 
 
 def given() -> str | None:
     """The program that SIMDRAM_PROGRAM names."""
-    name = os.environ.get("SIMDRAM_PROGRAM")
-    if not name:
+    if not (name := os.environ.get("SIMDRAM_PROGRAM")):
         return None
-    found = shutil.which(name)
-    if found is None:
+    if (found := shutil.which(name)) is None:
         raise NoProgram(f"SIMDRAM_PROGRAM is {name}, which is not a program")
     return str(pathlib.Path(found).resolve())
 
@@ -50,8 +47,7 @@ def standing(settings: Settings) -> str | None:
 
 def program(settings: Settings) -> str:
     """The program, built first if necessary: without proofs, since a proof takes long and is asked for by `simdram prove`."""
-    found = standing(settings)
-    if found is None:
+    if (found := standing(settings)) is None:
         if settings.proved:
             state = "is older than its sources" if (build.out_folder() / build.PROVED).exists() else "is not built"
             raise NoProgram(f"the proved program {state}: simdram prove")

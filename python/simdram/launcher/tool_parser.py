@@ -1,4 +1,4 @@
-"""The parser of a tool's words: its help is the tool's docstring."""
+"""What a tool is made of: the parser of its words, whose help is the tool's docstring, its settings, and its faults."""
 
 import argparse
 import ast
@@ -7,7 +7,10 @@ import sys
 import typing
 
 from .commands import TOOLS
+from .faults import Fault
 from .settings import Settings
+
+__all__ = ["Asked", "Fault", "Settings", "about", "flag", "option", "tool"]
 
 Asked = argparse.Namespace
 Main = typing.Callable[[Asked, Settings], int | None]
@@ -26,16 +29,12 @@ class Parser(argparse.ArgumentParser):
         (file or sys.stderr).write(message)
 
 
-class Option(typing.NamedTuple):
-    """A word of a tool, or an option where it begins with `-`, and what argparse takes for it."""
-
-    name: str
-    more: dict[str, typing.Any]
+# a word of a tool, or an option where it begins with `-`, and what argparse takes for it
+Option = tuple[str, dict[str, typing.Any]]
 
 
 def option(name: str, metavar: str | tuple[str, ...] = "", help: str = "", **more: typing.Any) -> Option:
-    said = {key: text for key, text in (("metavar", metavar), ("help", help)) if text}
-    return Option(name, {**said, **more})
+    return name, {**{key: text for key, text in (("metavar", metavar), ("help", help)) if text}, **more}
 
 
 def flag(name: str, help: str) -> Option:
@@ -50,7 +49,7 @@ def parser_of(module: str, words: typing.Iterable[str | Option]) -> Parser:
     for one in words:
         if isinstance(one, str):
             one = option(one.strip("[]").lower(), one.strip("[]"), nargs="?" if one.startswith("[") else None)
-        made.add_argument(one.name, **one.more)
+        made.add_argument(one[0], **one[1])
     return made
 
 
@@ -60,7 +59,7 @@ def tool(*words: str | Option) -> typing.Callable[[Main], typing.Callable[[list[
         def called(given: list[str], settings: Settings) -> int:
             parser = parser_of(main.__module__, words)
             # options may stand among several words of one name
-            has_several = any(isinstance(one, Option) and "nargs" in one.more for one in words)
+            has_several = any(not isinstance(one, str) and "nargs" in one[1] for one in words)
             return main((parser.parse_intermixed_args if has_several else parser.parse_args)(given), settings) or 0
         return called
     return of

@@ -1,13 +1,48 @@
-"""The words of a command of the program: its parser, and what is wrong with a command line that it refuses."""
+"""The words of a command of the program: its parser, help, and what is wrong with a command line that it refuses."""
 
 import argparse
 import difflib
 import functools
+import pathlib
+import re
+import string
+import subprocess
 import typing
 
-from .commands import ALL, HOLDS, Command, Word
+from .commands import ALL, HOLDS, PROGRAM, TOOLS, Command, Word
+from .faults import Fault
+from .settings import TOP
 from .tool_parser import Parser
-from .widths import is_rising
+
+LEAST, MOST = 1, 128
+ITEM = re.compile(r"([0-9]+)(?:-([0-9]+))?")
+
+
+def listed(text: str) -> list[int] | None:
+    """The widths of a list in its order, numbers and spans A-B with commas between them; none where it is no such list."""
+    found: list[int] = []
+    for word in text.split(","):
+        match = ITEM.fullmatch(word)
+        if not match or len(word) > 7:
+            return None
+        first, last = int(match[1]), int(match[2] or match[1])
+        if not LEAST <= first <= last <= MOST:
+            return None
+        found += range(first, last + 1)
+    return found
+
+
+def is_rising(text: str) -> bool:
+    """Whether it is a list as the program takes it, each width greater than the one before."""
+    found = listed(text)
+    return found is not None and all(one < other for one, other in zip(found, found[1:]))
+
+
+def widths_of(text: str, name: str = "--widths") -> list[int]:
+    """The widths of a list, each once."""
+    if (found := listed(text)) is None:
+        raise Fault(f"{name} takes widths from {LEAST} to {MOST}, and spans of them, with commas between them, as 4,8,16-20, and not {text}")
+    return list(dict.fromkeys(found))
 
 
 class Number(typing.NamedTuple):
@@ -65,8 +100,9 @@ class WordsParser(Parser):
         raise WrongWords(message)
 
     def taken(self, words: list[str], flags: typing.Collection[str] = ()) -> None:
-        """Raises what is wrong with the words."""
-        _, more = self.parse_known_args([text if text in flags else f"{self.MARK}{text}" for text in words])
+        """Raises what is wrong with the words; flags may stand anywhere among them."""
+        flags_first = sorted(words, key=lambda text: text not in flags)
+        _, more = self.parse_known_args([text if text in flags else f"{self.MARK}{text}" for text in flags_first])
         if more:
             raise WrongWords(f"{more[0][len(self.MARK):]} is one argument too many")
 
@@ -84,8 +120,8 @@ def help_on(word: Word) -> str:
     """What an argument is; of a file, what it holds and which page has its form."""
     if word.kind in NUMBERS:
         return f"{NUMBERS[word.kind].says} {NUMBERS[word.kind].more}"
-    what, _, holds = HOLDS[word.kind].partition(": ")
-    return f"{what}{', written' if word.is_written else ''}: {holds}"
+    called, holds = HOLDS[word.kind]
+    return f"{called.partition(' ')[2]}{', written' if word.is_written else ''}: {holds}"
 
 
 def parser_of(command: Command) -> WordsParser:
@@ -111,21 +147,11 @@ def wrong_together(command: Command, words: list[str]) -> str | None:
     return None
 
 
-def is_text(word: str) -> bool:
-    """Whether an argument is UTF-8, as the program requires."""
-    try:
-        word.encode()
-    except UnicodeEncodeError:
-        return False
-    return True
-
-
 def wrong_words(words: list[str]) -> str | None:
     """What is wrong with a command line, as one line, or nothing if it is a command of the program."""
     if not words:
         return "there is no command"
-    strange = next((word for word in words if not is_text(word)), None)
-    if strange is not None:
+    if (strange := next(filter(re.compile("[\ud800-\udfff]").search, words), None)) is not None:
         return f"{strange!r} is not UTF-8"
     command = ALL.get(words[0])
     if command is None or not command.is_program:
@@ -136,3 +162,28 @@ def wrong_words(words: list[str]) -> str | None:
     except WrongWords as wrong:
         return str(wrong)
     return wrong_together(command, [word for word in words[1:] if word not in dict(command.flags)])
+
+
+VERSION = "0.1.0"
+
+
+def columns(commands) -> str:
+    """Each command's arguments, what it does, and an example."""
+    return "".join(f"  {command.usage()}\n      {command.says}\n      simdram {command.example}\n" for command in commands)
+
+
+def all_commands() -> str:
+    template = string.Template(pathlib.Path(__file__).with_name("help.txt").read_text(encoding="utf-8"))
+    return template.substitute(program=columns(PROGRAM), tools=columns(TOOLS))
+
+
+def version() -> str:
+    """The version, and the commit where git tells it."""
+    said = f"simdram {VERSION}"
+    if TOP is not None and (pathlib.Path(TOP) / ".git").exists():
+        try:
+            ended = subprocess.run(["git", "-C", str(TOP), "rev-parse", "--short", "HEAD"], capture_output=True, text=True, check=False)
+        except OSError:
+            return said
+        said += f" ({ended.stdout.strip()})" if ended.returncode == 0 else ""
+    return said

@@ -12,7 +12,7 @@ import typing
 from ..assembler.at_width import choices
 from ..assembler.walks import Stuck, walk
 from ..files.program import BIT, WORD, Entry, Instruction, Program
-from ..files.store import folder_of, store
+from ..files.store import folder_of
 from ..launcher import run_program
 from ..rules.verdicts import verdicts_of
 
@@ -52,9 +52,11 @@ def scratch(entry: Entry, n: int) -> int:
     return entry.bits + n * entry.words
 
 
-def is_compiled(entry: Entry, compiled: typing.Collection[Entry]) -> bool:
-    """Whether an entry is the compiler's, but for lines for some widths."""
-    return choices(entry)[1] in compiled
+def right_names(path: str, ops: str, entries: typing.Sequence[Entry], n: int) -> set[str]:
+    """The names of the entries that `verify` finds right at a width."""
+    with folder_of(prog=Program(list(entries)).file()) as folder:
+        ended = run_program.run(["verify", ops, f"{folder}/prog", n], path=path)
+    return {verdict.name for verdict in verdicts_of(ended.out) if verdict.is_right}
 
 
 def with_named_rows(path: str, ops: str, file: bytes, n: int) -> tuple[bytes, str]:
@@ -63,11 +65,12 @@ def with_named_rows(path: str, ops: str, file: bytes, n: int) -> tuple[bytes, st
     with folder_of() as folder:
         prog = os.path.join(folder, "prog")
         compiled = Program.load(prog).entries if run_program.run(["compile", ops, prog], path=path).status == 0 else []
-        own = [[one.width for one in choices(entry)[0]] for entry in old]
-        new = [with_fewer_rows(entry, {*SOME_WIDTHS, *lines} if is_compiled(entry, compiled) else WIDTHS) for entry, lines in zip(old, own)]
-        store(prog, Program(new).file())
-        ended = run_program.run(["verify", ops, prog, n], path=path)
-    right = {verdict.name for verdict in verdicts_of(ended.out) if verdict.is_right}
+    new = []
+    for entry in old:
+        straight, rest = choices(entry)
+        # of the compiler's own code, but for lines for some widths, only some widths are tried
+        new.append(with_fewer_rows(entry, {*SOME_WIDTHS, *(one.width for one in straight)} if rest in compiled else WIDTHS))
+    right = right_names(path, ops, new, n)
     taken = [made if made.name in right else entry for entry, made in zip(old, new)]
     lines = []
     for entry, made in zip(old, new):

@@ -1,7 +1,7 @@
 """The command `optimise`: the program searches for one entry after another, several at a time, and goes on from a NEW that it wrote.
 
 So there is something to tell while it searches, and what was found is stored also where the call is interrupted. The files and the
-words of a call say what comes of it: no clock is read.
+words of a call say what comes of it: no clock is read. `fewest` searches from two texts of the same ops.
 """
 
 import os
@@ -9,15 +9,16 @@ import re
 import typing
 
 from ..assembler.at_width import choice
-from ..files.fault import FileFault, NotWritten
+from ..assembler.walks import walk
+from ..files.store import LIMITS, FileFault, NotWritten, folder_of, store
 from ..files.program import Entry, Program
-from ..files.store import LIMITS, folder_of, store
 from ..launcher import run_program
+from ..launcher.faults import Fault
 from ..launcher.overwrite import why_not_written, write
 from ..launcher.parallel import in_parallel
-from ..launcher.say import say
 from ..launcher.settings import Settings
-from .named_rows import with_named_rows
+from ..launcher.streams import say
+from .named_rows import right_names, with_named_rows
 
 # the seed, and how many changes are tried for each command: about five processor seconds for 100 commands
 SEED, WORK = 1, 50_000
@@ -77,7 +78,6 @@ class Search:
         in_parallel(self.search, range(len(self.found)), "optimise")
 
     def search(self, k: int) -> None:
-        """Searches for one entry."""
         self.found[k] = of_entry(self.path, self.asked, self.before[k])
 
     def file(self) -> bytes:
@@ -133,8 +133,7 @@ def run(path: str, words: typing.Sequence[str], flags: typing.Collection[str], s
         entries = []
     if not entries:  # the program says what is wrong with PROG, or that nothing is to be done
         return run_program.follow(path, ["optimise", *words])
-    reason = why_not_written(new, 0)
-    if reason:
+    if reason := why_not_written(new, 0):
         raise NotWritten(new, "", "cannot write", reason)
     search = Search(path, Asked(ops, int(width), *map(int, numbers)), entries)
     try:
@@ -151,3 +150,52 @@ def run(path: str, words: typing.Sequence[str], flags: typing.Collection[str], s
     if any(one.line.split()[-1] in NOT_RIGHT for one in search.found):
         say(f"simdram explain {ops} {prog} {width} says what is wrong, or what is not known")
     return 0
+
+
+class Fewest(typing.NamedTuple):
+    """An entry of the fewest commands that were found at a width, their number before and now, and whether it was verified."""
+
+    entry: Entry
+    before: int
+    after: int
+    is_right: bool
+
+    def line(self) -> str:
+        """What is said of it."""
+        name = self.entry.name
+        said = f"{name} {self.before} to {self.after}" if self.after < self.before else f"{name} as it was"
+        return said if self.is_right else f"{said}, not known to be right"
+
+
+def compiled(path: str, ops: str, prog: str) -> list[Entry]:
+    """The entries of a text that the program accepts."""
+    ended = run_program.run(["compile", ops, prog], path=path)
+    if ended.status:
+        raise Fault(f"compile ends with status {ended.status}: {''.join(ended.out.splitlines()[-1:])}")
+    return Program.load(prog).entries
+
+
+def searched(path: str, ops: str, prog: str, n: int, work: int) -> tuple[list[Entry], list[Entry]]:
+    """The entries of a text, and what a search finds for them at a width."""
+    search = Search(path, Asked(ops, n, SEED, work), compiled(path, ops, prog))
+    try:
+        search.run()
+    except Refused as refused:
+        raise Fault(f"optimise ends with status {refused.ended.status}: {''.join(refused.ended.out.splitlines()[-1:])}") from None
+    return search.before, [one.entry for one in search.found]
+
+
+def fewest(path: str, written: bytes, simpler: bytes, n: int, work: int = WORK) -> list[Fewest]:
+    """For each op of the text as it was written the entry of the fewest commands at a width. One of the simpler text is taken only
+    where `verify` finds that it does the op as it was written."""
+    with folder_of(ops=written, simpler=simpler) as folder:
+        ops, other, prog = (f"{folder}/{name}" for name in ("ops", "simpler", "prog"))
+        before, own = searched(path, ops, prog, n, work)
+        found = own
+        if simpler != written:
+            theirs = {entry.name: entry for entry in searched(path, other, prog, n, work)[1]}
+            right = right_names(path, ops, list(theirs.values()), n)
+            found = [min([entry, *(theirs[name] for name in [entry.name] if name in right)], key=lambda one: len(walk(one, n)))
+                     for entry in own]
+        right = right_names(path, ops, found, n)
+        return [Fewest(entry, len(walk(old, n)), len(walk(entry, n)), entry.name in right) for old, entry in zip(before, found)]

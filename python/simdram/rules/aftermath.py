@@ -1,19 +1,19 @@
 """What the launcher says on standard error after the program refused a file or an instruction."""
 
+import contextlib
 import os
 import shlex
 import stat
 import sys
 
-from ..assembler.one_width import one_width, other_width
-from ..files.fault import FileFault
+from ..assembler.at_width import one_width, other_width
+from ..files.store import FileFault, load
 from ..files.image import HEAD_MAX, Table
 from ..files.program import Program
-from ..files.store import load
 from ..launcher.commands import Command
 from ..launcher.overwrite import why_not_written
 from ..launcher.settings import Settings
-from ..launcher.widths import listed
+from ..launcher.words import listed
 from . import answers
 from .answer import Answer
 
@@ -24,16 +24,15 @@ NOT_WRITTEN, PROGRAM, REFUSED, SCAN, GUARD, FLIPS = 3, 5, 8, 16, 17, 18
 NOT_VERIFIED = (19, 20)
 # greater texts and traces are not read again
 LARGEST = 4_000_000
+SHOWN_MAX = 5
 
 
 def head_of(path: str) -> bytes | None:
     """The head and the table of an image, as they stand before it may be written over."""
-    try:
+    with contextlib.suppress(OSError):
         if stat.S_ISREG(os.stat(path).st_mode):
             with open(path, "rb") as file:
                 return file.read(HEAD_MAX)
-    except OSError:
-        pass
     return None
 
 
@@ -48,7 +47,6 @@ class Aftermath:
         self.size = max([os.path.getsize(text) for text in words if os.path.isfile(text)], default=0)
 
     def file(self, name: str) -> tuple[str, bytes]:
-        """A file's path and bytes."""
         path = self.paths[name]
         if not os.path.isfile(path) or (os.path.getsize(path) > LARGEST and name != "IMAGE"):
             raise LookupError(path)
@@ -59,18 +57,12 @@ class Aftermath:
             raise LookupError("IMAGE")
         return Table.read(self.head, self.paths["IMAGE"])
 
-    def fault(self, kind: str, name: str) -> list[Answer]:
-        """The first fault of a file."""
-        found = answers.first_fault(kind, *self.file(name))
-        return [found] if found else []
-
     def found(self, status: int) -> list[Answer]:
         """What is to be said after a status."""
-        if status in AT_FAULT:
-            name = AT_FAULT[status]
-            return self.fault({word.name: word.kind for word in self.command.words}[name], name)
-        if status == PROGRAM:
-            return self.fault("program", next(name for name in PROGRAMS if name in self.paths))
+        name = next(filter(self.paths.__contains__, PROGRAMS)) if status == PROGRAM else AT_FAULT.get(status)
+        if name:
+            kinds = {word.name: word.kind for word in self.command.words}
+            return list(filter(None, [answers.first_fault(kinds[name], *self.file(name))]))
         if status == REFUSED:
             prog, data = self.file("PROG")
             entries = {entry.name: entry for entry in Program.read(data, prog).entries}
@@ -96,16 +88,15 @@ class Aftermath:
             reasons = ((text, why_not_written(text, self.size)) for text in self.written)
             return [f"simdram: cannot write {text}: {reason}" for text, reason in reasons if reason]
         if status in NOT_VERIFIED:
-            call = f"simdram explain {shlex.join(self.words)} says what these verdicts mean, and what to do"
-            return [*self.of_other_widths(), call]
-        return answers.printed(self.found(status), self.all_by())
-
-    def of_other_widths(self) -> list[str]:
-        """The entries that are programs for one width, and not for the one that was asked for."""
-        prog, data = self.file("PROG")
-        asked = listed(self.paths["N"]) or []
-        return [f"{other}: verify it at {one_width(entry)}" for entry in Program.read(data, prog).entries
-                for other in [next(filter(None, (other_width(entry, n) for n in asked)), "")] if other]
+            # the entries that are programs for one width, and not for the one that was asked for
+            (prog, data), asked = self.file("PROG"), listed(self.paths["N"]) or []
+            others = ((entry, next(filter(None, (other_width(entry, n) for n in asked)), "")) for entry in Program.read(data, prog).entries)
+            return [*(f"{other}: verify it at {one_width(entry)}" for entry, other in others if other),
+                    f"simdram explain {shlex.join(self.words)} says what these verdicts mean, and what to do"]
+        found = self.found(status)
+        lines = [line for answer in found[:SHOWN_MAX] for line in answer.lines()]
+        more = len(found) - SHOWN_MAX
+        return lines + ([f"and {more} more{self.all_by()}"] if more > 0 else [])
 
     def tell(self, status: int) -> None:
         """Says it, where the files can still be read."""

@@ -25,8 +25,12 @@ class Answer:
 
     def lines(self) -> list[str]:
         found = [f"{self.path} {self.place}: {self.kind}".replace(" : ", ": ")]
-        if self.shown:
-            found += caret_lines(self.shown, *self.caret)
+        if self.shown:  # the line and a caret under a part of it, cut where the line is long
+            column, length = self.caret
+            start = max(0, column - WIDEST // 2) if len(self.shown) > WIDEST else 0
+            part = self.shown[start:start + WIDEST]
+            carets = "^" * max(1, min(length, len(part) - (column - start)))
+            found += [f"    {'..' if start else ''}{part}".rstrip(), " " * (4 + 2 * bool(start) + column - start) + carets]
         for text in (self.rule, *self.right):
             found += textwrap.wrap(text, WIDEST, initial_indent="  ", subsequent_indent="    ", break_long_words=False,
                                    break_on_hyphens=False)
@@ -57,12 +61,12 @@ class Breach(Exception):
         return Fault(f"{path} {answer.place}: {answer.kind}: {answer.rule}")
 
 
-def first_breach(path: str, data: bytes, read: typing.Callable[..., typing.Any], *more: typing.Any) -> Answer | None:
-    """The first fault that a reader of a text finds, if there is one."""
+def first_breach(path: str, data: bytes, read: typing.Callable[..., typing.Any], *more: typing.Any, refused: str = "") -> Answer | None:
+    """The first fault that a reader of a text finds, if any; `refused` is the instruction or the query that is."""
     try:
         read(data, *more)
     except Breach as breach:
-        return breach.answer(path, data)
+        return breach.answer(path, data, refused)
     return None
 
 
@@ -70,11 +74,3 @@ def near(word: str, known) -> str:
     """The known words that a word is nearly, as a question."""
     found = nearest(word, known)
     return f"; did you mean {' or '.join(found)}?" if found else ""
-
-
-def caret_lines(text: str, column: int, length: int) -> list[str]:
-    """A line of text and a caret under a part of it, cut where the line is long."""
-    start = max(0, column - WIDEST // 2) if len(text) > WIDEST else 0
-    part = text[start:start + WIDEST]
-    carets = "^" * max(1, min(length, len(part) - (column - start)))
-    return [f"    {'..' if start else ''}{part}".rstrip(), " " * (4 + 2 * bool(start) + column - start) + carets]

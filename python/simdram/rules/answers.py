@@ -1,9 +1,10 @@
 """The answers on files: their first faults, and what a script or a query is refused with."""
 
+import functools
 import subprocess
 
 from ..assembler import assemble
-from ..files.fault import FileFault
+from ..files.store import FileFault
 from ..files.image import Image, Table
 from ..files.program import Entry, Program
 from ..files.trace import Trace
@@ -12,11 +13,10 @@ from ..launcher.commands import KINDS, MAGIC
 from ..launcher.overwrite import content
 from ..launcher.settings import Settings
 from .answer import Answer, Breach, first_breach
-from .flips_rules import check_flips
+from .script_rules import check_flips, read_script
 from .ops_rules import read_ops
 from .query_rules import read_query
 from .script_refusals import Checker, check_scan, refused
-from .script_rules import read_script
 
 READERS = {"program": Program, "image": Image, "trace": Trace}
 TEXTS = {"ops": read_ops, "script": read_script, "query": read_query, "micro": assemble}
@@ -31,7 +31,6 @@ RIGHT = {
     "event": "an event is 0 AAP, 1 AP or 2 WRITE, its bank, and two addresses: a group, 0 B, 1 C or 2 D, and a number",
     "legal": "B8 to B11 raise two wordlines and may only be second; C0 and C1 may only be first",
 }
-SHOWN_MAX = 5
 GUARDED_NAME_MAX = 15
 COST_SECONDS = 20
 
@@ -62,24 +61,16 @@ def first_fault(kind: str, path: str, data: bytes) -> Answer | None:
 
 def stuck_by_cost(prog: str, settings: Settings):
     """Where an entry is stuck at a width, as `cost` says it."""
-    known: dict[int, dict[str, str]] = {}
+    @functools.lru_cache(maxsize=None)
+    def stuck_at(width: int) -> dict[str, str]:
+        try:
+            ended = run_program.run(["cost", prog, width], settings=settings, seconds=COST_SECONDS)
+        except subprocess.TimeoutExpired:
+            return {}
+        lines = (line.partition(" bad_walk ") for line in ended.out.splitlines())
+        return {name: where for name, stuck, where in lines if stuck}
 
-    def stuck(name: str, width: int) -> str | None:
-        if width not in known:
-            known[width] = stuck_at(prog, width, settings)
-        return known[width].get(name)
-
-    return stuck
-
-
-def stuck_at(prog: str, width: int, settings: Settings) -> dict[str, str]:
-    """Of each entry that is stuck at a width, where and why."""
-    try:
-        ended = run_program.run(["cost", prog, width], settings=settings, seconds=COST_SECONDS)
-    except subprocess.TimeoutExpired:
-        return {}
-    lines = (line.partition(" bad_walk ") for line in ended.out.splitlines())
-    return {name: where for name, stuck, where in lines if stuck}
+    return lambda name, width: stuck_at(width).get(name)
 
 
 def script_refusals(path: str, data: bytes, table: Table, entries: dict[str, Entry], stuck, is_guarded=False,
@@ -91,11 +82,7 @@ def script_refusals(path: str, data: bytes, table: Table, entries: dict[str, Ent
 
 def query_refusals(path: str, data: bytes, table: Table) -> list[Answer]:
     """Why a query is refused on a table."""
-    try:
-        check_scan(read_query(data), table)
-    except Breach as refusal:
-        return [refusal.answer(path, data, "query")]
-    return []
+    return list(filter(None, [first_breach(path, data, lambda text: check_scan(read_query(text), table), refused="query")]))
 
 
 def flips_fault(path: str, data: bytes, script: tuple[str, bytes], table: Table) -> list[Answer]:
@@ -133,17 +120,9 @@ def stranger(table: Table) -> tuple[int, str] | None:
 
 def no_triples(path: str, table: Table) -> list[Answer]:
     """Where an image's table is no list of triples."""
-    found = stranger(table)
-    if not found:
+    if not (found := stranger(table)):
         return []
     k, wanted = found
     stands = table.objects[k].name if k < len(table.objects) else "the table's end"
     return [Answer(path, f"object {k}", f"guard table {k}", f"{stands} where {wanted} is expected",
                    ("the table of a guarded image is a list of triples xNAME, yNAME, zNAME; `simdram init` makes one without objects",))]
-
-
-def printed(found: list[Answer], all_by: str) -> list[str]:
-    """The lines of the first answers, and how many more there are, with the words that print all."""
-    lines = [line for answer in found[:SHOWN_MAX] for line in answer.lines()]
-    more = len(found) - SHOWN_MAX
-    return lines + ([f"and {more} more{all_by}"] if more > 0 else [])

@@ -13,9 +13,7 @@ from ..files.program import Program
 from ..files.store import load
 from ..launcher import run_program
 from ..launcher.commands import KINDS, MAGIC
-from ..launcher.faults import Fault
-from ..launcher.settings import Settings
-from ..launcher.tool_parser import Asked, option, tool
+from ..launcher.tool_parser import Asked, Fault, Settings, option, tool
 from ..launcher.words import wrong_number
 from . import answers
 from .answer import Answer
@@ -49,7 +47,6 @@ def by_first_word(data: bytes) -> str:
 
 
 def kind_of(path: str) -> tuple[str, bytes]:
-    """The kind of a file, and its bytes."""
     data = load(path)
     by_magic = next((kind for kind, magic in MAGIC.items() if data.startswith(magic)), None)
     return by_magic or ENDINGS.get(os.path.splitext(path)[1]) or by_first_word(data), data
@@ -97,19 +94,13 @@ def found_in(path: str, beside: dict, width: int, settings: Settings) -> list[An
     return answers.query_refusals(path, data, table) if table else []
 
 
-def width_of(words: list[str]) -> int:
-    """The width that stands last, which is taken out, or 0 where none does."""
-    if not words or not words[-1].isdigit():
-        return 0
-    wrong = wrong_number("width", words[-1])
-    if wrong:
-        raise Fault(f"N is {wrong}")
-    return int(words.pop())
-
-
 @tool("FILE", option("beside", "BESIDE", nargs="*", default=[]))
 def main(asked: Asked, settings: Settings) -> int:
-    width, beside = width_of(asked.beside), {}
+    width, beside = 0, {}
+    if asked.beside and asked.beside[-1].isdigit():
+        if wrong := wrong_number("width", asked.beside[-1]):
+            raise Fault(f"N is {wrong}")
+        width = int(asked.beside.pop())
     for path in asked.beside:
         kind, data = kind_of(path)
         beside[kind] = (path, data)

@@ -5,8 +5,7 @@ import typing
 from ..launcher.faults import Fault
 from . import word_ops
 from .answer import Breach, near
-from .op_shapes import OpShape, Statement
-from .op_tree import Expr, Op, gate, read
+from .op_tree import Expr, Op, OpShape, StatementShape, gate, read
 from .tokens import END, NAME, NAME_MAX, STRANGER, Token, is_long, no_token, tokens
 
 RESERVED = ("op", "word", "bit", "serial", "up", "down", "let")
@@ -23,10 +22,6 @@ def listed(names) -> str:
     return ", ".join(names) or "none"
 
 
-def spelled(token: Token) -> str:
-    return "the end of the text" if token.kind == END else f"`{token.text}`"
-
-
 class Reader:
     """Reads a text token by token, as far as no rule is broken."""
 
@@ -39,8 +34,6 @@ class Reader:
     @property
     def shape(self) -> OpShape:
         return self.shapes[-1]
-
-    # tokens
 
     def next(self) -> Token:
         return self.tokens[self.at]
@@ -72,9 +65,8 @@ class Reader:
             right.append("arguments are names: a constant is `zero()` or `ones()`, or an object that a script fills")
         if token.text == "(" and self.at and self.tokens[self.at - 1].text in word_ops.TAKES_GIVES and "argument" in wanted:
             right.append(NO_NEST.format(self.tokens[self.at - 1].text))
-        return Breach(token, "syntax", f"the grammar does not allow {spelled(token)} here", *right)
-
-    # rules on names
+        shown = "the end of the text" if token.kind == END else f"`{token.text}`"
+        return Breach(token, "syntax", f"the grammar does not allow {shown} here", *right)
 
     def good_name(self, token: Token, what: str, is_taken: typing.Callable[[str], bool] = lambda _: False) -> str:
         """A new name that is not reserved, not too long and not taken."""
@@ -99,10 +91,7 @@ class Reader:
         if count >= most:
             raise Breach(token, "too_many", what.format(most))
 
-    # ops
-
     def read(self) -> None:
-        """The whole text."""
         while self.next().kind != END:
             token = self.take("the word `op` of one more op", "op")
             self.limit(token, len(self.ops), OPS, "a text has at most {} ops")
@@ -153,11 +142,10 @@ class Reader:
                 self.shape.last = token
                 break
             wanted = "one more statement, or `}`"
-            self.shape.statements.append(Statement(token))
+            self.shape.statements.append(StatementShape(token))
             self.statement(token)
             self.shape.last_statement.last = self.tokens[self.at - 1]
-        still = [name for name in self.shape.results if self.shape.is_open_result(name)]
-        if still:
+        if still := [name for name in self.shape.results if self.shape.is_open_result(name)]:
             raise Breach(token, "no_result", f"{listed(still)} of op {self.shape.name} is a result and was not assigned",
                          f"assign it before this `}}`, as in `{still[0]} = copy(..);`")
 
@@ -168,8 +156,6 @@ class Reader:
             self.word_statement(name)
         else:
             self.block()
-
-    # word statements
 
     def word_statement(self, first: str) -> None:
         targets = [first]
@@ -224,24 +210,19 @@ class Reader:
         name = token.text
         if name in RESERVED or is_long(name):
             self.good_name(token, "the argument")
-        kind = self.shape.defined.get(name)
-        if kind is None:
-            raise self.unknown_argument(token)
+        if (kind := self.shape.defined.get(name)) is None:
+            right = [f"defined names: {listed(self.shape.defined)}"]
+            if self.next().text == "(" and name in word_ops.TAKES_GIVES:
+                right.insert(0, NO_NEST.format(name))
+            elif self.shape.is_open_result(name):
+                right.insert(0, f"{name} is a result that is not assigned yet")
+            raise Breach(token, "unknown", f"no name {name} is defined before this{near(name, self.shape.defined)}", *right)
         if not word_ops.may_take(operation, given, kind):
             other = "bit" if kind == "word" else "word"
             wanted = f"a {other}" if word_ops.may_take(operation, given, other) else "no argument"
             raise Breach(token, "kind", f"{name} is a {kind}; {operation} takes {wanted} here", word_ops.said(operation))
         self.shape.last_statement.args.append(name)
         return kind
-
-    def unknown_argument(self, token: Token) -> Breach:
-        name, right = token.text, []
-        if self.next().text == "(" and name in word_ops.TAKES_GIVES:
-            right.append(NO_NEST.format(name))
-        elif self.shape.is_open_result(name):
-            right.append(f"{name} is a result that is not assigned yet")
-        right.append(f"defined names: {listed(self.shape.defined)}")
-        return Breach(token, "unknown", f"no name {name} is defined before this{near(name, self.shape.defined)}", *right)
 
     def word_end(self, targets: list[str], gives: list[str]) -> None:
         token = self.take("`;`", ";")
@@ -254,8 +235,6 @@ class Reader:
         for name, kind in zip(targets, gives):
             self.shape.stands.append(name)
             self.shape.defined.setdefault(name, kind)
-
-    # serial blocks
 
     def block(self) -> None:
         self.shape.last_statement.direction = self.take("`up` or `down`", "up", "down").text
@@ -313,7 +292,7 @@ class Reader:
             self.good_name(token, "the value")
         if self.next().text == "(":
             return self.gate(token, depth)
-        known = self.shape.readable()
+        known = list(dict.fromkeys([*self.shape.defined, *self.shape.last_statement.starts, *self.shape.last_statement.lets]))
         if token.text not in known:
             right = [f"defined names: {listed(known)}"]
             if token.text in word_ops.GATES:
@@ -369,7 +348,6 @@ def shapes_of(path: str, data: bytes) -> list[OpShape]:
 def op_shape(path: str, data: bytes, name: str) -> OpShape:
     """What an operation text says of an op."""
     shapes = shapes_of(path, data)
-    found = next((shape for shape in shapes if shape.name == name), None)
-    if found is None:
+    if (found := next((shape for shape in shapes if shape.name == name), None)) is None:
         raise Fault(f"{path} has no op {name}: it has {listed(shape.name for shape in shapes)}")
     return found

@@ -138,7 +138,6 @@ class Reader:
 
 
 def read_query(data: bytes) -> list[Node]:
-    """The nodes of a query."""
     reader = Reader(data)
     reader.read()
     return reader.nodes

@@ -3,7 +3,7 @@
 import dataclasses
 import typing
 
-from ..assembler.one_width import one_width, other_width
+from ..assembler.at_width import one_width, other_width
 from ..assembler.text_lines import place_of
 from ..files.image import OBJECTS, ROWS_MAX, SPILL_ROWS, Object, Table
 from ..files.program import Entry
@@ -50,8 +50,6 @@ class Checker:
                     refusal.token = refusal.token._replace(text=refusal.token.text[1:])
                 raise
 
-    # objects
-
     def do_order(self, _one: Instruction) -> None:
         pass
 
@@ -64,8 +62,7 @@ class Checker:
         if count > table.room:
             raise Breach(one.numbers[0], "too_large", f"{count} elements; an object of this image has at most {table.room}: "
                          f"64 columns for each of {table.words} words in {table.banks} banks")
-        base = table.least_free(width)
-        if base is None:
+        if (base := table.least_free(width)) is None:
             raise no_rows(table, one.numbers[1], width, f"an object of {width} bits")
         table.objects.append(Object(token.text, width, base, count))
 
@@ -97,11 +94,8 @@ class Checker:
                 raise Breach(token, f"range {k + 1}", f"{found.name} has {bits(found.width)}, which hold{'s' * (found.width == 1)} 0 to "
                              f"{2**found.width - 1}")
 
-    # operations
-
     def do_bbop(self, one: Instruction) -> None:
-        entry = self.entries.get(one.op)
-        if entry is None:
+        if (entry := self.entries.get(one.op)) is None:
             raise Breach(one.head, "no_op", f"the program has no entry {one.op}{near(one.op, self.entries)}",
                          f"its entries: {', '.join(self.entries) or 'none'}")
         if len(one.operands) != len(entry.results) + len(entry.sources):
@@ -130,8 +124,7 @@ class Checker:
     def overlap(one: Instruction, entry: Entry, found: list[Object]) -> None:
         """An operand that shares a bit with a destination before it."""
         for place, rows in enumerate(found):
-            other = next((one for one in found[:min(place, len(entry.results))] if one.meets(rows)), None)
-            if other:
+            if other := next((one for one in found[:min(place, len(entry.results))] if one.meets(rows)), None):
                 role = "the first destination" if place < len(entry.results) else "a destination"
                 whole = f"{rows.name} is {role} {'too' if place < len(entry.results) else 'and a source'}"
                 shared = whole if rows.name == other.name else f"{rows.name} has bits of {other.name}, {role}"
@@ -194,8 +187,7 @@ def make(table: Table, node: Node, k: int, width: int, count: int) -> Object:
     """One more object of a scan, under the first free of its names."""
     if len(table.objects) == OBJECTS:
         raise Breach(node.lead, f"table_full {k}", f"the scan makes an object here, but the table is full with {OBJECTS}")
-    base = table.least_free(width)
-    if base is None:
+    if (base := table.least_free(width)) is None:
         refusal = no_rows(table, node.lead, width, "an object that the scan makes here")
         raise Breach(refusal.token, f"no_rows {k}", refusal.rule, *refusal.right[:1])
     name = next(name for name in (f"scan_{number}" for number in range(OBJECTS + 1)) if not table.find(name))

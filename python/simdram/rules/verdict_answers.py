@@ -1,14 +1,15 @@
 """What the verdicts of `verify` mean, entry by entry, and what to do."""
 
+import itertools
 import shlex
 
 from ..assembler.reading import head_line
-from ..assembler.one_width import one_width, other_width
+from ..assembler.at_width import one_width, other_width
 from ..assembler.text_lines import place_of
 from ..files.program import Entry, Program
 from ..steps.one_column import Column
 from .answer import Answer
-from .op_shapes import OpShape
+from .op_tree import OpShape, head_text
 from .ops_rules import listed, near
 from .verdicts import BAD_WALK, NO_ENTRY, OTHER_KINDS, RIGHT, WRONG, Verdict
 
@@ -29,21 +30,15 @@ SOURCES = "abcd"
 def positions(bits: int) -> str:
     """The positions at which a number has ones, neighbours as a range."""
     at = [k for k in range(bits.bit_length()) if bits >> k & 1]
-    runs: list[list[int]] = []
-    for k in at:
-        if runs and runs[-1][1] == k - 1:
-            runs[-1][1] = k
-        else:
-            runs.append([k, k])
-    return ", ".join(str(a) if a == b else f"{a} to {b}" for a, b in runs)
+    runs = [[k for _, k in run] for _, run in itertools.groupby(enumerate(at), lambda one: one[1] - one[0])]
+    return ", ".join(str(run[0]) if len(run) == 1 else f"{run[0]} to {run[-1]}" for run in runs)
 
 
 def different_bits(verdict: Verdict, shape: OpShape, n: int) -> str:
     """Which bits of which results a case has wrong."""
     said = []
     for (name, kind), gives, wanted in zip(shape.results.items(), verdict.gives, verdict.wanted):
-        bits = gives ^ wanted
-        if bits:
+        if bits := gives ^ wanted:
             where = f"bit{'s' * (bits & bits - 1 != 0)} {positions(bits)} of {name}"
             is_top = n > 1 and kind == "word" and bits == 1 << n - 1
             said.append(f"the top bit of {name}, {n - 1}," if is_top else name if kind == "bit" else where)
@@ -88,19 +83,12 @@ def of_wrong(verdict: Verdict, shape: OpShape, entry: Entry, prog: str, n: int) 
 
 def of_stuck(verdict: Verdict, entry: Entry, prog: str, n: int) -> tuple[str, tuple[str, ...]]:
     """Where a walk is stuck."""
-    other = other_width(entry, n)
-    if other:
+    if other := other_width(entry, n):
         return f"at width {n} its walk cannot go on: {other}", (f"verify it at {one_width(entry)}",)
     text = f", `{entry.code[verdict.at]}`," if verdict.at < len(entry.code) else ""
     place = place_of(prog, entry, verdict.at)
     return f"at width {n} its walk cannot go on: instruction {verdict.at}{text}{place[1:] if text else place} {WHY[verdict.why]}", (
         f"`simdram list {shlex.quote(prog)}` numbers the instructions; look at the bounds of the loop that it stands in",)
-
-
-def head_of(shape: OpShape) -> str:
-    """The head that a program of an op has."""
-    operands, results = (", ".join(f"{name}: {kind}" for name, kind in names.items()) for names in (shape.sources, shape.results))
-    return f"program {shape.name}({operands}) -> {results}"
 
 
 def answer_on(verdict: Verdict, shape: OpShape, program: Program, prog: str, n: int) -> Answer:
@@ -113,7 +101,7 @@ def answer_on(verdict: Verdict, shape: OpShape, program: Program, prog: str, n: 
         said = of_stuck(verdict, entries[verdict.name], prog, n)
     elif verdict.kind == OTHER_KINDS:
         said = (f"the op takes and gives other kinds than the entry, whose head is `{head_line(entries[verdict.name])}`",
-                (f"the op asks for `{head_of(shape)}`; names and scratch may be others",))
+                (f"the op asks for `{head_text(f'program {shape.name}', shape.sources.items(), shape.results.items())}`; names and scratch may be others",))
     elif verdict.kind == NO_ENTRY:
         names = list(entries)
         said = (f"no entry has this name; the entries are {listed(names)}{near(verdict.name, names)}",

@@ -34,7 +34,6 @@ class Verdict:
 
     @property
     def is_right(self) -> bool:
-        """Whether the entry does the op."""
         return self.kind == RIGHT
 
     def __bool__(self) -> bool:
@@ -42,9 +41,7 @@ class Verdict:
 
 
 def verdict_of(line: str) -> Verdict | None:
-    """The verdict of a line, if it is one."""
-    match = LINE.fullmatch(line)
-    if not match:
+    if not (match := LINE.fullmatch(line)):
         return None
     name = match["name"]
     if match["right"]:
@@ -54,13 +51,8 @@ def verdict_of(line: str) -> Verdict | None:
     if match["other"]:
         return Verdict(name, match["other"], why=match["limit"] or "")
     operands = {word.partition("=")[0]: int(word.partition("=")[2]) for word in match["operands"].split()}
-    return Verdict(name, WRONG, operands=operands, gives=numbers(match["gives"]), wanted=numbers(match["wanted"]),
-                   start=tuple((match["start"] or "").split()))
-
-
-def numbers(text: str) -> tuple[int, ...]:
-    """Numbers with blanks between them."""
-    return tuple(map(int, text.split()))
+    gives, wanted = (tuple(map(int, match[part].split())) for part in ("gives", "wanted"))
+    return Verdict(name, WRONG, operands=operands, gives=gives, wanted=wanted, start=tuple((match["start"] or "").split()))
 
 
 def verdicts_of(text: str) -> list[Verdict]:

@@ -20,7 +20,7 @@ class BlockWriter:
         self.made, self.items, self.graph, self.group = made, made.items, made.graph, group
         self.plan = made.plan
         self.words, self.components = made.order.written[group], made.order.computed[group]
-        self.states = sorted(state for one in self.components for state in self.items.states_in(one))
+        self.states = sorted(state for one in self.components for state in self.items.components[one])
         # each state's name, and whether it is kept inverted
         self.kept: dict[int, tuple[str, int]] = {}
 
@@ -29,7 +29,6 @@ class BlockWriter:
         return Item(STATES, self.items.component[state]) in self.plan.groups[self.group]
 
     def write(self) -> None:
-        """Appends the statement."""
         if self.group not in self.plan.blocks and (self._as_word() or self._as_comparison()):
             return
         directions = {self.graph.states[state].direction for state in self.states} - {"any"}

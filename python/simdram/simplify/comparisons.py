@@ -54,8 +54,6 @@ class Comparisons:
             self.order[bit] = Ordered(x, y, its)
             self.by_order.setdefault(Ordered(x, y, its), bit)
 
-    # top bits
-
     def top(self, a: int) -> int:
         """The top bit of a word: a state that takes each bit, upwards."""
         return self.graph.last(self.graph.state("up", 0, lambda now: a))
@@ -93,10 +91,6 @@ class Comparisons:
         self.note_order(found, a, b, GREATER)
         return found
 
-    def do_ge(self, a: int, b: int) -> int:
-        """a >= b: not b > a."""
-        return self.do_gt(b, a) ^ 1
-
     def do_eq(self, a: int, b: int) -> int:
         """a = b: no position differs."""
         graph, (a, b) = self.graph, sorted((a, b))
@@ -121,12 +115,11 @@ class Comparisons:
         """A comparison by its words and its ways."""
         if order.ways in (0, ANY_OF):
             return order.ways & 1
-        known = self.by_order.get(order)
-        if known is not None:
+        if (known := self.by_order.get(order)) is not None:
             return known
         name, is_exchanged, flip = ASKED[order.ways]
         pair = (order.y, order.x) if is_exchanged else (order.x, order.y)
-        return getattr(self, f"do_{name}")(*pair) ^ flip
+        return self.value(name, pair) ^ flip
 
     def _relation(self, a: int, b: int) -> tuple[int, int]:
         """The two sides of an or: of x > y or (x = y and z), as of keys of two words, the second is x >= y and z."""
@@ -148,8 +141,7 @@ class Comparisons:
             return 0
         for lit, other, is_first in ((a, b, True), (b, a, False)):
             for op in ("min", "max"):
-                parts = self.was_op(lit, op)
-                if parts:
+                if parts := self.was_op(lit, op):
                     pairs = [(part, other) if is_first else (other, part) for part in parts]
                     return self.graph.gate("or" if (op == "max") == is_first else "and", *(self.greater(*pair) for pair in pairs))
         return self.do_gt(a, b) if a < b else self.do_gt(b, a) ^ 1

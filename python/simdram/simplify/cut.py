@@ -4,7 +4,6 @@ Where both texts take a product of the same arguments, it is one unknown in both
 equal for the product. So what a comparison of whole texts cannot follow is often known.
 """
 
-import dataclasses
 import typing
 
 from ..rules.op_tree import WORD, Body, Op, Params, WordStatement
@@ -38,7 +37,7 @@ class Side:
             if name in self.key:
                 self.rest.append(WordStatement((other,), "copy", (name,)))
         self.rest = live(self.rest, [name for name, _ in self.results])
-        self.read = set(names_read(self.rest))
+        self.read = set().union(*(one.reads for one in self.rest))
 
     def _is_cut(self, one: typing.Any) -> bool:
         """Notes the values of an operation of sources and of cut values."""
@@ -56,25 +55,8 @@ class Side:
         sources = {key: (key if key in kinds else f"v_{k}") for k, key in enumerate(used)}
         names = {name: sources[key] for name, key in self.key.items() if name in self.read}
         params = tuple((sources[key], kinds.get(key, WORD)) for key in used)
-        body = [with_reads(one, lambda name: names.get(name, name)) for one in self.rest]
+        body = [one.reading(lambda name: names.get(name, name)) for one in self.rest]
         return Op(self.op.name, params, self.results, body).text()
-
-
-def names_read(body: Body) -> typing.Iterator[str]:
-    """The names that a body reads of others."""
-    for one in body:
-        if isinstance(one, WordStatement):
-            yield from one.args
-        else:
-            own = dict(one.states).keys() | dict(one.lets).keys()
-            yield from (name for expr in one.expressions for name in expr.names() if name not in own)
-
-
-def with_reads(one: typing.Any, names: typing.Callable[[str], str]) -> typing.Any:
-    """A statement that reads other names."""
-    if isinstance(one, WordStatement):
-        return dataclasses.replace(one, args=tuple(map(names, one.args)))
-    return one.changed(lambda expr: expr.renamed(names))
 
 
 def cut(old: Op, new: Op) -> tuple[str, str] | None:

@@ -1,5 +1,6 @@
 """Whether two texts of an op are equal at widths: by the program's `verify`, for all inputs."""
 
+import contextlib
 import subprocess
 import threading
 import typing
@@ -9,7 +10,7 @@ from ..launcher import run_program
 from ..rules.op_tree import Op
 from ..rules.verdicts import RIGHT, UNKNOWN, WRONG, verdicts_of
 from .cut import cut, has_nested
-from .work_time import limits, spent
+from .measured import limits, spent
 
 # the statuses under which `verify` has a line for the op
 SAID = (0, 19, 20)
@@ -24,15 +25,9 @@ class Equality(typing.NamedTuple):
     is_cut: bool = False
     is_late: bool = False
 
-    @property
-    def wrong(self) -> list[int]:
-        """The widths at which the texts differ."""
-        return [width for width, its in self.verdicts.items() if its == WRONG]
-
-    @property
-    def unknown(self) -> list[int]:
-        """The widths at which nothing is known."""
-        return [width for width, its in self.verdicts.items() if its == UNKNOWN]
+    def at(self, kind: str) -> list[int]:
+        """The widths at which this is known: that the texts differ, or nothing."""
+        return [width for width, its in self.verdicts.items() if its == kind]
 
 
 class Comparer:
@@ -43,13 +38,11 @@ class Comparer:
 
     def _run(self, words: typing.Sequence[typing.Any], folder: str) -> run_program.Ended | None:
         """The program's end, or nothing where the time is over."""
-        try:
+        with contextlib.suppress(subprocess.TimeoutExpired):
             if spent() < self.until and not self.stopped.is_set():
-                ended = run_program.run(words, folder, path=self.program, **limits(self.until)._asdict())
+                ended = run_program.run(words, folder, path=self.program, **limits(self.until))
                 if ended.status >= 0:
                     return ended
-        except subprocess.TimeoutExpired:
-            pass
         self.is_late = True
         return None
 
@@ -77,7 +70,6 @@ class Comparer:
             if set(found.values()) == {RIGHT}:
                 return Equality(found, True)
         found = self.by_texts(old.text(), new.text(), widths, program)
-        unknown = [width for width in widths if found[width] == UNKNOWN]
-        if unknown:
+        if unknown := [width for width in widths if found[width] == UNKNOWN]:
             found.update(self.by_texts(new.text(), old.text(), unknown))
         return Equality(found, False, self.is_late)

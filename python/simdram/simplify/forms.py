@@ -2,8 +2,7 @@
 
 import typing
 
-from .gates import STATE, WHOLE, WORD, StateRule
-from .states import replaced
+from .gates import STATE, WHOLE, WORD, StateRule, replaced
 from .sums import Sums
 
 ALONE = "alone"
@@ -28,7 +27,6 @@ class Forms(Sums):
         return graph.form(graph.last(graph.state("any", start, lambda now: graph.gate(gate, now, a))), op, a)
 
     def do_or_red(self, a: int) -> int:
-        """Whether some bit is 1."""
         found = self.by_top(a, 0)
         return found if found is not None else self._reduced("or_red", "or", 0, a)
 
@@ -80,8 +78,6 @@ class Forms(Sums):
         top = self.top(a)
         return self.made(graph.gate("and", a, top ^ 1) if op == "relu" else self.negate_if(a, top), op, a)
 
-    # choices among words by bits
-
     def chain(self, lit: int) -> None:
         """Makes a choice among words by bits a chain of choices, where it is one: the node's gate is replaced."""
         graph = self.graph
@@ -90,8 +86,7 @@ class Forms(Sums):
                 or any(graph.nodes[leaf].kind == STATE for leaf in graph.leaves[lit >> 1]):
             return
         picks = {word: replaced(self.graph, lit, {2 * one: int(one == word) for one in words}, {}) for word in words}
-        found = [one for one in (self._chain_by(lit, words, picks, k) for k in range(len(words))) if one]
-        if found:
+        if found := [one for one in (self._chain_by(lit, words, picks, k) for k in range(len(words))) if one]:
             _, s, x, y = min(found)
             if lit >> 1 not in graph.cone(s) | graph.cone(x) | graph.cone(y):
                 graph.nodes[lit >> 1] = graph.node(lit)._replace(kind="mux", args=(s, x ^ lit & 1, y ^ lit & 1))
@@ -111,7 +106,7 @@ class Forms(Sums):
 
 # of each operation with a short rule, its value
 RULES: dict[str, typing.Callable[..., int]] = {
-    "not": lambda _, a: a ^ 1, "copy": lambda _, a: a, "zero": lambda _: 0, "ones": lambda _: 1,
+    "not": lambda _, a: a ^ 1, "copy": lambda _, a: a, "zero": lambda _: 0, "ones": lambda _: 1, "ge": lambda self, a, b: self.do_gt(b, a) ^ 1,
     "shl1": lambda self, a: self._shifted("shl1", "up", a), "shr1": lambda self, a: self._shifted("shr1", "down", a),
     "and_red": lambda self, a: self._reduced("and_red", "and", 1, a), "xor_red": lambda self, a: self._reduced("xor_red", "xor", 0, a),
     "min": lambda self, a, b: self._extreme("min", a, b), "max": lambda self, a, b: self._extreme("max", a, b),

@@ -96,10 +96,3 @@ class Items:
     def bits_only(self, lit: int) -> bool:
         """Whether a literal is of bits and last values alone."""
         return lit > 1 and all(self.graph.nodes[leaf].kind in ("bit", LAST) for leaf in self.graph.leaves[lit >> 1])
-
-    def states_in(self, number: int) -> frozenset[int]:
-        return self.components[number]
-
-    def is_read_last(self, number: int) -> bool:
-        """Whether a component has a state whose last value is read."""
-        return any(state in self.read_last for state in self.components[number])

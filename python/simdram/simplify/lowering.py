@@ -4,10 +4,7 @@ import typing
 
 from ..rules.op_tree import ALIKE, BIT, TO_BIT, WORD, Block, Expr, Op, WordStatement
 from .forms import Forms
-from .gates import BIT as BIT_LEAF
-from .gates import STATE, WORD as WORD_LEAF
-from .gates import StateRule
-from .states import equal_states, settle
+from .gates import BIT as BIT_LEAF, STATE, WORD as WORD_LEAF, StateRule, equal_states, settle
 
 
 class Lowered(Forms):
@@ -25,20 +22,16 @@ class Lowered(Forms):
             else:
                 self._block(one)
         self.results = [(name, kind, self.values[name][1]) for name, kind in op.results]
-        self._settle()
+        if self.graph.states:
+            now = settle(self.graph, equal_states(self.graph))
+            self.results = [(name, kind, now(lit)) for name, kind, lit in self.results]
+            self.optional = [now(lit) for lit in self.optional]
+            self.named = {now(lit): name for lit, name in reversed(list(self.named.items()))}
         has_extremes = any(what in ("min", "max") for what, _ in self.options)
         if has_extremes and self.choose("chain", ("no", "yes")) == "yes":
             for _, kind, lit in self.results:
                 if kind == WORD:
                     self.chain(lit)
-
-    def _settle(self) -> None:
-        if not self.graph.states:
-            return
-        now = settle(self.graph, equal_states(self.graph))
-        self.results = [(name, kind, now(lit)) for name, kind, lit in self.results]
-        self.optional = [now(lit) for lit in self.optional]
-        self.named = {now(lit): name for lit, name in reversed(list(self.named.items()))}
 
     def _keep(self, name: str, kind: str, lit: int) -> None:
         self.values[name] = (kind, lit)

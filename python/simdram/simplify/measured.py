@@ -1,6 +1,7 @@
 """What statements cost: each is measured once, in an op of its own, many to a call of the program."""
 
 import copy
+import os
 import subprocess
 import threading
 import typing
@@ -10,10 +11,24 @@ from ..files.store import folder_of, load
 from ..launcher import run_program
 from ..launcher.parallel import in_parallel
 from ..rules.op_tree import BIT, WORD, Body, Op, made_by
-from .estimate import guessed
-from .statement_alone import Alone, Cost, Costs, alone
+from .statement_alone import Alone, Cost, Costs, alone, guessed
 from .statement_cache import StatementCache
-from .work_time import limits, spent
+
+# how many seconds of the clock a call may take for each processor second that is left, and at least
+SLACK, LEAST = 20, 10
+
+
+def spent() -> float:
+    """The processor seconds of this process and its ended calls: the same work takes as many on a busy machine."""
+    times = os.times()
+    return times.user + times.system + times.children_user + times.children_system
+
+
+def limits(until: float) -> dict[str, float]:
+    """What a call may take up to a time of `spent`: seconds of the clock and of the processor; nothing is no limit."""
+    left = max(0.0, until - spent())
+    return {} if until == float("inf") else {"seconds": LEAST + SLACK * left, "processor_seconds": left}
+
 
 # the status of `compile` where the text is refused
 REFUSED = 4
@@ -62,13 +77,10 @@ class Measured:
         other.until, other.asked = until, set()
         return other
 
-    # the program
-
     def run(self, words: typing.Sequence[typing.Any], folder: str) -> run_program.Ended:
-        """Runs the program in the time that is left."""
         self.check_time()
         try:
-            ended = run_program.run(words, folder, path=self.program, **limits(self.until)._asdict())
+            ended = run_program.run(words, folder, path=self.program, **limits(self.until))
         except subprocess.TimeoutExpired:
             raise TimeOver from None
         if ended.status < 0:
@@ -102,8 +114,6 @@ class Measured:
                 for its, cost in zip(found, costs):
                     its[width] = Cost(cost.commands, cost.rows)
             return Compiled(found, load(f"{folder}/prog"))
-
-    # statements
 
     def of_parts(self, bodies: typing.Sequence[Parts]) -> list[Costs | None]:
         """The costs of bodies; nothing where a statement is refused."""

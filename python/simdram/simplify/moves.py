@@ -21,9 +21,6 @@ def possible(items: Items, plan: Plan) -> int:
         return NONE
 
 
-# starts
-
-
 def starts(items: Items) -> list[Plan]:
     """The text as it was, only what must stand in rows, and all merged that can be."""
     base = [frozenset([Item(STATES, one)]) for one in range(len(items.components))]
@@ -67,9 +64,6 @@ def merged(items: Items, plan: Plan) -> Plan:
         if trial is None:
             return plan
         plan = trial
-
-
-# moves
 
 
 def merges(plan: Plan) -> typing.Iterator[Plan]:
@@ -117,7 +111,7 @@ def again(items: Items, plan: Plan) -> typing.Iterator[Plan]:
         item, groups = Item(STATES, number), plan.groups
         now = dataclasses.replace(plan, again=plan.again ^ {number})
         without = [group - {item} for group in groups]
-        if number in now.again and not items.is_read_last(number):
+        if number in now.again and not items.read_last & items.components[number]:
             groups = without
         elif number in plan.again and not any(item in group for group in groups):
             groups = [*groups, frozenset([item])]
@@ -137,7 +131,8 @@ def spellings(items: Items, plan: Plan, numbers: typing.Iterable[int]) -> list[P
     found, numbers = [], list(numbers)
     for k, group in enumerate(plan.groups):
         if not is_whole(group):
-            found += [plan.spelled(k, number) for number in numbers]
+            spelled = ({**dict(plan.spelling), k: number} for number in numbers)
+            found += [dataclasses.replace(plan, spelling=tuple(one.items())) for one in spelled]
             found.append(dataclasses.replace(plan, blocks=plan.blocks ^ {k}))
     found += [dataclasses.replace(plan, turned=plan.turned ^ {state}) for one in items.components for state in sorted(one)]
     return found

@@ -8,17 +8,14 @@ from ..rules.word_ops import WEIGHTS
 
 
 def weight(expr: Expr) -> int:
-    """The weight of an expression's gates."""
     return WEIGHTS.get(expr.gate, 0) + sum(map(weight, expr.args))
 
 
 def depth(expr: Expr) -> int:
-    """How deep its gates nest."""
     return 1 + max(map(depth, expr.args)) if expr.args else 0
 
 
 def block_fits(block: Block) -> bool:
-    """Whether a block keeps to the limits."""
     counts = ((block.states, STATES), (block.assigns, ASSIGNMENTS), (block.lets, LETS))
     return bool(block.assigns) and all(len(part) <= most for part, most in counts) \
         and sum(map(weight, block.expressions)) <= WEIGHT and max(map(depth, block.expressions)) <= DEPTH
@@ -44,21 +41,18 @@ def live_block(block: Block, wanted: set[str]) -> Block | None:
     states = tuple(one for one in block.states if one[0] in needed)
     lets = tuple(one for one in block.lets if one[0] in needed)
     assigns = tuple(one for one in block.assigns if one[0] in needed) or ((states[0][0], read(states[0][0])),)
-    own = dict(states).keys() | dict(lets).keys()
-    wanted |= {name for _, expr in lets + assigns for name in expr.names()} - own
-    return Block(block.direction, states, lets, assigns)
+    found = Block(block.direction, states, lets, assigns)
+    wanted |= found.reads
+    return found
 
 
 def live(body: Body, results: typing.Iterable[str]) -> Body:
     """The body without what nothing reads: statements, assignments, states and lets."""
     wanted, kept = set(results), []
     for one in reversed(body):
-        if isinstance(one, WordStatement):
-            if wanted.intersection(one.targets):
-                wanted |= set(one.args)
-                kept.append(one)
-            continue
-        block = live_block(one, wanted)
-        if block:
-            kept.append(block)
-    return kept[::-1]
+        if isinstance(one, Block):
+            kept.append(live_block(one, wanted))
+        elif wanted.intersection(one.targets):
+            wanted |= one.reads
+            kept.append(one)
+    return list(filter(None, kept[::-1]))

@@ -32,10 +32,6 @@ class Plan:
         """The same with other groups; an empty one goes."""
         return dataclasses.replace(self, groups=tuple(filter(None, groups)))
 
-    def spelled(self, group: int, number: int) -> "Plan":
-        """The same with another spelling of a group."""
-        return dataclasses.replace(self, spelling=tuple({**dict(self.spelling), group: number}.items()))
-
     @property
     def key(self) -> tuple:
         """What two plans of equal statements have in common."""
@@ -67,7 +63,7 @@ class Order:
         """Which groups each group needs before it."""
         edges: dict[int, set[int]] = {k: set() for k in range(len(self.plan.groups))}
         for item, k in self.where.items():
-            for other, is_strict in Needs(self, item).found:
+            for other, is_strict in needs(self, item):
                 if other not in self.where or is_strict and self.where[other] == k:
                     raise NoOp("an item's need")
                 if self.where[other] != k:
@@ -78,51 +74,42 @@ class Order:
     def _sorted(edges: dict[int, set[int]]) -> list[int]:
         order: list[int] = []
         while len(order) < len(edges):
-            ready = next((k for k in edges if k not in order and edges[k].issubset(order)), None)
-            if ready is None:
+            if (ready := next((k for k in edges if k not in order and edges[k].issubset(order)), None)) is None:
                 raise NoOp("a cycle")
             order.append(ready)
         return order
 
 
-class Needs:
+def needs(order: Order, item: Item) -> set[tuple[Item, bool]]:
     """The items that an item needs; those of which it needs the last value or the whole word must stand before its group."""
-
-    def __init__(self, order: Order, item: Item) -> None:
-        self.of, self.items, self.graph, self.item = order, order.items, order.graph, item
-        self.found: set[tuple[Item, bool]] = set()
-        self.seen: set[int] = set()
-        if item.kind == OPERATION:
-            for arg in self.graph.wholes[item.number].args:
-                node = self.graph.node(arg)
-                if node.kind == WHOLE and not arg & 1:
-                    self.found.add((Item(OPERATION, node.ident), True))
-                elif self.items.needs_row(arg, False):
-                    self.found.add((self.of.row_of.get(arg >> 1, Item(ROW, arg)), True))
-        else:
-            roots = [self.items.rule(one) for one in self.items.states_in(item.number)] if item.kind == STATES else [item.number]
-            self.root = item.number >> 1 if item.kind == ROW else None
-            for lit in roots:
-                self._go(lit)
-
-    def _go(self, lit: int) -> None:
-        number, node = lit >> 1, self.graph.node(lit)
-        if number in self.seen or node.kind == CONST:
-            return
-        self.seen.add(number)
-        own = node.kind == STATE and self.item == Item(STATES, self.items.component[node.ident])
-        if number in self.of.row_of and number != self.root and not own:
-            self.found.add((self.of.row_of[number], False))
+    items, graph = order.items, order.graph
+    found: set[tuple[Item, bool]] = set()
+    if item.kind == OPERATION:
+        for arg in graph.wholes[item.number].args:
+            if graph.node(arg).kind == WHOLE and not arg & 1:
+                found.add((Item(OPERATION, graph.node(arg).ident), True))
+            elif items.needs_row(arg, False):
+                found.add((order.row_of.get(arg >> 1, Item(ROW, arg)), True))
+        return found
+    todo, seen = list(map(items.rule, items.components[item.number])) if item.kind == STATES else [item.number], set()
+    while todo:
+        number, node = todo[-1] >> 1, graph.node(todo.pop())
+        if number in seen or node.kind == CONST:
+            continue
+        seen.add(number)
+        component = items.component[node.ident] if node.kind in (STATE, LAST) else -1
+        is_own = node.kind == STATE and item == Item(STATES, component)
+        if number in order.row_of and not is_own and not (item.kind == ROW and number == item.number >> 1):
+            found.add((order.row_of[number], False))
         elif not node.is_leaf:
-            for arg in node.args:
-                self._go(arg)
-        elif node.kind == STATE and not own and self.items.component[node.ident] in self.of.plan.again:
-            for state in self.items.states_in(self.items.component[node.ident]):
-                self._go(self.items.rule(state))
-        elif node.kind == LAST or node.kind == STATE and not own:
-            self.found.add((Item(STATES, self.items.component[node.ident]), node.kind == LAST))
+            todo += node.args
+        elif node.kind == STATE and not is_own and component in order.plan.again:
+            todo += map(items.rule, items.components[component])
+        elif node.kind == LAST or node.kind == STATE and not is_own:
+            found.add((Item(STATES, component), node.kind == LAST))
         elif node.kind == WHOLE:
-            self.found.add((Item(OPERATION, node.ident), True))
+            found.add((Item(OPERATION, node.ident), True))
+    return found
 
 
 class Demand:
@@ -144,7 +131,7 @@ class Demand:
                 self._component(component)
 
     def _component(self, component: int) -> None:
-        for state in self.items.states_in(component):
+        for state in self.items.components[component]:
             self._go(self.items.rule(state))
 
     def _other_row(self, number: int) -> int | None:
@@ -159,8 +146,7 @@ class Demand:
         self.seen.add(number)
         if node.kind == CONST or node.is_leaf and node.kind != STATE:
             return
-        other = self._other_row(number)
-        if other is not None:
+        if (other := self._other_row(number)) is not None:
             if self.of.rank[other] > self.of.rank[self.group]:
                 raise NoOp("a row that comes later")
             return
@@ -203,15 +189,11 @@ class Demand:
 
     def _is_covered(self, number: int, is_top: bool = True) -> bool:
         """Whether rows already give all that a node needs of other blocks."""
-        if not is_top and self._has_row(number):
-            return True
+        if not is_top:
+            earlier = (its for group, its in self.of.written.items() if self.of.rank[group] < self.of.rank[self.group])
+            if self._other_row(number) is not None or any({2 * number, 2 * number + 1}.intersection(its) for its in earlier):
+                return True
         node = self.graph.nodes[number]
         if node.is_leaf or node.kind == CONST:
             return node.kind != STATE
         return all(self._is_covered(arg >> 1, False) for arg in node.args)
-
-    def _has_row(self, number: int) -> bool:
-        if self._other_row(number) is not None:
-            return True
-        return any({2 * number, 2 * number + 1}.intersection(written) for group, written in self.of.written.items()
-                   if self.of.rank[group] < self.of.rank[self.group])

@@ -1,12 +1,13 @@
 """The search for the text of an op that costs the least: over plans, spellings, and other forms of operations."""
 
+import contextlib
 import typing
 
 from ..rules.op_tree import Body, Op, body_text
 from .blocks import written
 from .items import Items
 from .lowering import Lowered
-from .measured import AT_ONCE, Compiled, Measured, Parts, TimeOver
+from .measured import AT_ONCE, Measured, Parts, TimeOver
 from .moves import moves, spellings, starts
 from .plans import NoOp, Plan
 from .spelling import STYLES
@@ -52,12 +53,10 @@ class Simpler(typing.NamedTuple):
 
     @property
     def is_changed(self) -> bool:
-        """Whether the body is another one."""
         return self.body is not self.op.body
 
     @property
     def text(self) -> str:
-        """The op with the body."""
         return self.op.text(self.body)
 
 
@@ -85,8 +84,8 @@ class Search:
         found = []
         for plan in plans:
             self.measured.check_time()
-            body = body_of(items, plan)
-            if body is not None:
+            with contextlib.suppress(NoOp):
+                body = written(items, plan)
                 parts = self.measured.parts(self.op, body)
                 found.append(Candidate(self.guess(parts), body, plan, parts))
         return sorted(found, key=lambda one: one.guess)
@@ -168,28 +167,14 @@ class Search:
 
     def run(self) -> Simpler:
         """The op with the best text that was found in the time, measured as a whole; else as it was."""
-        is_whole = True
-        try:
+        is_whole, found = False, None
+        with contextlib.suppress(TimeOver):
             self.over_forms()
-        except TimeOver:
-            is_whole = False
-        found = self._whole(self.best.body) if self.best.body is not None else None
+            is_whole = True
+        if self.best.body is not None:
+            with contextlib.suppress(TimeOver):
+                found = self.measured.until_then(self.end).compiled(self.op.text(self.best.body))
         old, new = self.score(self.before), self.score(found.costs[0] if found else None)
         if new < old or new == old and len(self.best.body) < len(self.op.body):
             return Simpler(self.op, self.best.body, self.before, found.costs[0], is_whole, found.program)
         return Simpler(self.op, self.op.body, self.before, self.before, is_whole)
-
-    def _whole(self, body: Body) -> Compiled | None:
-        """A body compiled as a whole, if that can be done in time."""
-        try:
-            return self.measured.until_then(self.end).compiled(self.op.text(body))
-        except TimeOver:
-            return None
-
-
-def body_of(items: Items, plan: Plan) -> Body | None:
-    """The statements of a plan, or nothing where it is no op."""
-    try:
-        return written(items, plan)
-    except NoOp:
-        return None

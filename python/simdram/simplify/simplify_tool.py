@@ -21,16 +21,12 @@ import sys
 from ..files.program import Program
 from ..files.store import load
 from ..launcher import run_program
-from ..launcher.faults import Fault
 from ..launcher.overwrite import check, write
-from ..launcher.settings import Settings
-from ..launcher.tool_parser import Asked, flag, option, tool
-from ..launcher.widths import widths_of
-from ..launcher.words import wrong_number
-from ..optimise.two_starts import fewest
+from ..launcher.tool_parser import Asked, Fault, Settings, flag, option, tool
+from ..launcher.words import widths_of, wrong_number
+from ..optimise.search import fewest
 from ..rules import answers
-from .outcome import WRONG, Outcome, new_text
-from .simplifier import SECONDS, Options, Simplifier
+from .simplifier import SECONDS, WRONG, Options, Simplifier, new_text
 
 FAULTY = 1
 WIDTHS = "4,8,16,32"
@@ -47,8 +43,7 @@ def check_words(asked: Asked, settings: Settings) -> None:
             raise Fault(f"{asked.new} is OPS itself; NEW is another file")
         check(asked.new, "ops", settings)
     if asked.width:
-        wrong = wrong_number("one width", asked.width[0])
-        if wrong:
+        if wrong := wrong_number("one width", asked.width[0]):
             raise Fault(f"N of --width is {wrong}")
         check(asked.width[1], "program", settings)
 
@@ -71,11 +66,6 @@ def fault_of(path: str, data: bytes, settings: Settings) -> int:
     return ended.status
 
 
-def show_wrong(one: Outcome, before: bytes) -> None:
-    """Both texts of an op that a fault of this tool made differ."""
-    print(f"as it was:\n{before.decode('utf-8', 'replace')}\nas it was simplified:\n{one.simpler.text}", end="", file=sys.stderr)
-
-
 @tool("OPS", "[NEW]",
       option("--widths", "N,N,..", "where no op is dearer, and is compared; 4,8,16,32 unless given, or N of --width"),
       option("--width", ("N", "PROG"), "also write a program of the fewest commands at the width N", nargs=2),
@@ -89,8 +79,7 @@ def main(asked: Asked, settings: Settings) -> int:
     options = Options(tuple(widths_of(widths)), asked.seconds, asked.rows, asked.unvalidated)
     simplifier = Simplifier(run_program.program(settings), options)
     data = load(asked.ops, "ops")
-    status = fault_of(asked.ops, data, settings)
-    if status:
+    if status := fault_of(asked.ops, data, settings):
         return status
     outcomes = simplifier.outcomes(data, "simplify")
     text = new_text(data, outcomes)
@@ -102,7 +91,7 @@ def main(asked: Asked, settings: Settings) -> int:
         before = data[one.op.start:one.op.end]
         print(one.line(before), file=sys.stdout if asked.new else sys.stderr)
         if one.kind == WRONG:
-            show_wrong(one, before)
+            print(f"as it was:\n{before.decode('utf-8', 'replace')}\nas it was simplified:\n{one.simpler.text}", end="", file=sys.stderr)
     if asked.width:
         write_program(simplifier.program, asked, data, text, settings)
     return FAULTY if any(one.kind == WRONG for one in outcomes) else 0

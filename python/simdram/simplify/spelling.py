@@ -33,14 +33,11 @@ class Spelling:
             return gate(str(lit))
         if lit in self.inside:
             return read(self.inside[lit])
-        if lit ^ 1 in self.inside:
-            return gate("not", read(self.inside[lit ^ 1]))
-        return self.reading(lit)
+        return gate("not", read(self.inside[lit ^ 1])) if lit ^ 1 in self.inside else self.reading(lit)
 
     def expr(self, lit: int, is_let: bool = False) -> Expr:
         """A literal; a let's own right side does not read the let."""
-        found = self.named(lit)
-        if found is not None:
+        if (found := self.named(lit)) is not None:
             return found
         if lit >> 1 in self.let_names and not is_let:
             found = read(self.let_names[lit >> 1])

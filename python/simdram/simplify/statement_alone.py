@@ -1,8 +1,11 @@
-"""A statement by itself, as it is measured: names by their places, and the arguments of xor and maj in one order."""
+"""A statement by itself, as it is measured: names by their places, and the arguments of xor and maj in one order; and
+guesses at what it costs, which tell which statements are worth measuring."""
 
+import collections
 import typing
 
 from ..rules.op_tree import BIT, WORD, Block, Expr, Statement, WordStatement, body_text, made_by
+from ..rules.word_ops import WORD_OPS
 
 # what a word by `zero` and a bit by `not` take in commands
 ZERO, NOT_BIT = 1, 2
@@ -31,16 +34,6 @@ class Alone(typing.NamedTuple):
         """What its cost is kept by."""
         return f"{self.text}# {', '.join(self.reads)}"
 
-    @property
-    def words(self) -> int:
-        """How many words it reads."""
-        return sum(name.endswith(WORD) for name in self.reads)
-
-    @property
-    def bits(self) -> int:
-        """How many bits it reads."""
-        return len(self.reads) - self.words
-
     def probe(self, name: str) -> str:
         """An op that does the statement, with words by `zero` and bits by `not`."""
         pairs = (pair.split(": ") for pair in self.reads)
@@ -49,8 +42,9 @@ class Alone(typing.NamedTuple):
 
     def own_cost(self, n: int, cost: Cost) -> Cost:
         """What the statement itself takes of its probe's cost at a width."""
-        made = self.makes.count(WORD) * n + self.makes.count(BIT)
-        return Cost(cost.commands - (self.words + 1) * ZERO * n - self.bits * NOT_BIT, cost.rows - self.words * n - self.bits - made)
+        made, words = self.makes.count(WORD) * n + self.makes.count(BIT), sum(name.endswith(WORD) for name in self.reads)
+        bits = len(self.reads) - words
+        return Cost(cost.commands - (words + 1) * ZERO * n - bits * NOT_BIT, cost.rows - words * n - bits - made)
 
 
 def operands(expr: Expr, gate: str) -> typing.Iterator[Expr]:
@@ -110,3 +104,31 @@ def alone(one: Statement, kinds: typing.Mapping[str, str]) -> Alone:
     own = set(made) if isinstance(one, WordStatement) else {*made, *dict(one.lets)}
     reads = tuple(f"{place}: {kinds[name]}" for name, place in names.items() if name not in own)
     return Alone(body_text([plain]), reads, tuple(made.values()))
+
+
+# commands of a position, fitted by least squares on measured blocks of bench/kernels
+WEIGHTS = {"and": 0.75, "xor": 1.6, "maj": 0.6, "word": 1.3, "bit": 2.2, "target": 1.0, "state": 2.0, "one": -1.9}
+# guesses of blocks are taken so much lower, as a block may be cheaper than its gates say
+OPTIMISM = 0.75
+
+
+def gates_of(expr: Expr) -> typing.Iterator[str]:
+    """The gates of an expression; or is counted as and, which it is of complements."""
+    if expr.args and expr.gate != "not":
+        yield "and" if expr.gate == "or" else expr.gate
+    for arg in expr.args:
+        yield from gates_of(arg)
+
+
+def guessed(one: Statement, kinds: typing.Mapping[str, str]) -> float:
+    """A low guess at the commands of a position of a statement."""
+    if isinstance(one, Block):
+        found = collections.Counter(gate for expr in one.expressions for gate in gates_of(expr))
+        states = dict(one.states)
+        found[WORD] = sum(kinds[name] == WORD for name in one.reads)
+        found[BIT] = len(one.reads) - found[WORD]
+        found["state"] = sum(name in states for name, _ in one.assigns)
+        found["target"] = len(one.assigns) - found["state"]
+        found["one"] = 1
+        return OPTIMISM * max(1.0, sum(WEIGHTS[name] * count for name, count in found.items()))
+    return WORD_OPS[one.op].each if all(kinds[arg] == WORD for arg in one.args[:2]) else 0.0

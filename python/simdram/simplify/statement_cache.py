@@ -1,5 +1,6 @@
 """What statements cost, kept on disk: one file for each program, since another compiler may find other costs."""
 
+import contextlib
 import hashlib
 import json
 import os
@@ -33,12 +34,26 @@ def load_json(path: pathlib.Path) -> typing.Any:
 def store_json(path: pathlib.Path, what: typing.Any) -> None:
     """Keeps something where that can be done; a reader sees the file as a whole."""
     beside = path.with_name(f"{path.name}.new{os.getpid()}")
-    try:
+    with contextlib.suppress(OSError):
         path.parent.mkdir(parents=True, exist_ok=True)
         beside.write_text(json.dumps(what), encoding="utf-8")
         os.replace(beside, path)
-    except OSError:
-        pass
+
+
+def path_of(kind: str, what: dict[str, typing.Any]) -> pathlib.Path:
+    """The file that keeps what was found for this."""
+    return folder() / f"{kind}-{hashlib.sha256(repr(sorted(what.items())).encode()).hexdigest()[:32]}.json"
+
+
+def kept_of(kind: str, what: dict[str, typing.Any], name: str) -> typing.Any:
+    """What is kept under a name of what was found for this, or nothing."""
+    found = load_json(path_of(kind, what))
+    return found.get(name) if isinstance(found, dict) and {**found, name: ""} == {**what, name: ""} else None
+
+
+def keep_for(kind: str, what: dict[str, typing.Any], name: str, found: typing.Any) -> None:
+    """Keeps what was found for this under a name."""
+    store_json(path_of(kind, what), {**what, name: found})
 
 
 def checked(found: typing.Any) -> Kept:

@@ -30,8 +30,6 @@ class Statements:
             self.result_of.setdefault(lit, (name, kind))
         self.done: set[str] = set()
 
-    # names
-
     def fresh(self, wanted: str) -> str:
         """A name that nothing has, the wanted one or that with a number."""
         wanted = wanted[:NAME_MAX]
@@ -63,10 +61,7 @@ class Statements:
         return gate("not", read(self.standing[lit ^ 1])) if lit ^ 1 in self.standing else None
 
     def call(self, targets: typing.Sequence[str], op: str, args: typing.Sequence[str]) -> None:
-        """Appends a word statement."""
         self.body.append(WordStatement(tuple(targets), op, tuple(args)))
-
-    # word statements
 
     def whole(self, number: int) -> None:
         """The statement of an operation that stays whole."""
@@ -106,8 +101,6 @@ class Statements:
             return form[0], [self.standing[arg] for arg in form[1]]
         return None
 
-    # bits
-
     def bit(self, lit: int) -> str:
         """The name of a bit, by statements on bits where it is no one's yet."""
         if lit in self.standing:
@@ -141,8 +134,6 @@ class Statements:
             op, given = self.gate_form(lit)
         names = [self.bit(arg) for arg in given]
         self.call([self.name(lit, BIT)], op, names)
-
-    # results
 
     def result(self, name: str, kind: str, lit: int) -> None:
         """A result that no statement gave yet."""

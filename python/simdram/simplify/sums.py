@@ -44,8 +44,7 @@ class Sums(Comparisons):
             return self.negate_if(self.do_sub(pair[1], pair[0]), self.do_gt(*pair))
         if self.negated(b) is not None:
             return self.do_add(a, self.negated(b))
-        known = self._undone(a, b)
-        if known is not None:
+        if (known := self._undone(a, b)) is not None:
             return known
         borrow = graph.state("up", 0, lambda now: graph.gate("maj", a ^ 1, b, now))
         found = graph.gate("xor", graph.gate("xor", a, b), borrow)
@@ -56,10 +55,8 @@ class Sums(Comparisons):
         parts = self.was_op(b, "sub")
         if a == 0 and parts:
             return self.do_sub(parts[1], parts[0])
-        parts = self.was_op(a, "add")
-        if parts and b in parts:
-            return parts[0] if parts[1] == b else parts[1]
-        return None
+        parts = self.was_op(a, "add") or ()
+        return next((one for one, other in (parts, parts[::-1]) if other == b), None) if parts else None
 
     def apart(self, a: int, b: int, s: int) -> int | None:
         """|p - q| of a choice between p - q and q - p by p > q."""
@@ -93,7 +90,6 @@ class Sums(Comparisons):
         return None
 
     def divide(self, a: int, b: int) -> tuple[int, int]:
-        """The quotient and the remainder."""
         if b == 0:
             return 1, a
         number = self.graph.whole("divmod", a, b)

@@ -39,16 +39,12 @@ def both(one: Known, other: Known) -> Known:
                   for (left, left_turned), (right, right_turned) in zip(one, other)], (CONSTANT, CONSTANT, False))
 
 
-def after_last_rounds(code: Code) -> dict[int, int]:
-    """Where what follows the last round of a loop goes on, by where its instructions end: after the loop, where the rest of it
-    has no row commands."""
-    return {past - 1: one.last + 1 for one in outline(code).loops for _, past in one.ends
-            if code[past - 1].number <= one.last and not any(each.rows for each in code[code[past - 1].number:one.last])}
-
-
 def known_at(code: Code, rows: RowNames) -> dict[int, Known]:
     """What is known of the cells where each piece of the code begins."""
-    ends, on, held = dict(pieces(code)), after_last_rounds(code), held_at(code)
+    ends, held = dict(pieces(code)), held_at(code)
+    # where what follows the last round of a loop goes on: after the loop, where the rest of it has no row commands
+    on = {past - 1: one.last + 1 for one in outline(code).loops for _, past in one.ends
+          if code[past - 1].number <= one.last and not any(each.rows for each in code[code[past - 1].number:one.last])}
 
     def goes_on(first: int, known: Known) -> list[tuple[int, Known]]:
         past = ends[first]

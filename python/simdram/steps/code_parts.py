@@ -4,7 +4,7 @@ import dataclasses
 
 from ..assembler.loops_and_ways import Outline, outline
 from ..files.program import AAP, ADDI, INDEXED, REGISTERS, SUBI, Instruction
-from ..rules.op_shapes import OpShape
+from ..rules.op_tree import OpShape
 from ..rules.tokens import line_of
 from .positions import UNKNOWN, Held, counted_from, held_at, pieces
 from .row_names import ZERO_INDEX, RowNames
@@ -75,14 +75,10 @@ def parts(code) -> list[Part]:
     return made
 
 
-def written(part: Part, names: RowNames) -> set[str]:
-    """The names whose rows a part writes."""
-    return {names.base(one.rows[1]) for one in part.code if one.kind == AAP}
-
-
 def with_statements(found: list[Part], names: RowNames, shape: OpShape, data: bytes) -> list[Part]:
     """The parts, each with its statements; one that sets no name is of the statement that is done next, or else of the last."""
-    own = [tuple(k for k, one in enumerate(shape.statements) if written(part, names) & set(one.targets)) for part in found]
+    written = [{names.base(one.rows[1]) for one in part.code if one.kind == AAP} for part in found]
+    own = [tuple(k for k, one in enumerate(shape.statements) if its & set(one.targets)) for its in written]
     made = []
     for k, part in enumerate(found):
         after = next((mine[:1] for mine in own[k:] if mine), ())

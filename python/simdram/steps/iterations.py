@@ -3,8 +3,7 @@
 import bisect
 import typing
 
-from ..assembler.at_width import branch
-from ..assembler.one_width import one_width, other_width
+from ..assembler.at_width import branch, one_width, other_width
 from ..files.decode import CELLS
 from ..files.program import REGISTERS, RESULT, SOURCE, Entry, Row
 from ..launcher.faults import Fault
@@ -68,7 +67,7 @@ class Execution:
         """For each time that a part is executed, its registers at the start, what its subscripts are counted from, and the bits
         after each of its commands."""
         runs = {loop: runs_of(self.path, *loop) for loop in part.loops}
-        found = [{"registers": registers, "held": counted_by(part, registers), "bits": [], "inside": inside(runs, when)}
+        found = [{"registers": registers, "held": counted_by(part, registers), "inside": inside(runs, when), "bits": []}
                  for when, registers in self.firsts[part.first][:MOST]]
         number = -1
         for moment in self.moments:
@@ -92,8 +91,7 @@ class Execution:
 
 def counted_by(part: Part, registers: typing.Sequence[int]) -> list[tuple[str, int]]:
     """What the subscripts of a part are counted from, and its number where the registers hold these at its start."""
-    one = letter(part.code, part.held)
-    if one:
+    if one := letter(part.code, part.held):
         return [(LETTER, registers[int(one[0][1:])] + one[1])]
     names = dict.fromkeys(name for form in of_rows(part.code, part.held) for name in form.variables)
     return [(name, registers[int(name[1:])]) for name in names]
@@ -105,7 +103,6 @@ def execution(entry: Entry, text: OpText | None, numbers: str, width: int | None
     rows = text.names() if text else RowNames(None)
     names = [rows.base(Row(SOURCE, which, REGISTERS)) for which in range(len(entry.sources))]
     values, chosen = numbers_of(numbers, names, entry.sources, width or one_width(entry))
-    other = other_width(entry, chosen)
-    if other:
+    if other := other_width(entry, chosen):
         raise Fault(f"{other}, and not for {chosen}")
     return Execution(branch(entry, chosen), chosen, values, rows, ones)

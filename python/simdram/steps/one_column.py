@@ -5,7 +5,7 @@ import typing
 
 from ..assembler.walks import Place, Registers
 from ..files.decode import CELLS, RAISED
-from ..files.program import (AAP, AP, B_ADDRESS, BIT, C_ADDRESS, DONE, RESULT, SOURCE, SPILL, SPILLS, WORD, Entry, Instruction, Row)
+from ..files.program import AAP, AP, B_ADDRESS, BIT, C_ADDRESS, DONE, RESULT, SOURCE, SPILL, SPILLS, WORD, Entry, Row
 from ..launcher.faults import Fault
 from .positions import pieces
 
@@ -65,14 +65,6 @@ class Column:
         for cell, turned in RAISED[row.which]:
             self.cells[cell] = inverted(value, turned)
 
-    def command(self, one: Instruction) -> tuple[tuple[Place, ...], tuple[Bit, ...]]:
-        """Executes a row command: the places of its data rows, and their bits after it."""
-        value = self.sensed(one.rows[0])
-        if one.kind == AAP:
-            self.settle(one.rows[1], value)
-        places = tuple(self.registers.place(row) for row in one.rows if row.is_data)
-        return places, tuple(self.rows.get(place, self.unset) for place in places)
-
     def run(self) -> typing.Iterator[Moment]:
         """Executes the code, and gives what stands after each row command."""
         at = 0
@@ -84,7 +76,11 @@ class Column:
             if len(self.path) == MOST_INSTRUCTIONS:
                 raise Fault(f"{self.entry.name} executes over {MOST_INSTRUCTIONS:,} instructions at the width {self.width}")
             if one.kind in (AAP, AP):
-                places, bits = self.command(one)
+                value = self.sensed(one.rows[0])
+                if one.kind == AAP:
+                    self.settle(one.rows[1], value)
+                places = tuple(self.registers.place(row) for row in one.rows if row.is_data)
+                bits = tuple(self.rows.get(place, self.unset) for place in places)
                 yield Moment(at, tuple(self.cells.values()), places, bits, len(self.path) - 1)
             at = self.registers.next(at, one)
 
@@ -128,8 +124,7 @@ def numbers_of(text: str, names: typing.Sequence[str], kinds: typing.Sequence[st
         if name not in names or name in given or not equals or not number.isascii() or not number.isdigit():
             raise Fault(f"--with takes {','.join(f'{one}=NUMBER' for one in names)}, and not {part.strip() or text}")
         given[name] = int(number)
-    missing = [name for name in names if name not in given]
-    if missing:
+    if missing := [name for name in names if name not in given]:
         raise Fault(f"--with gives no number for {', '.join(missing)}")
     chosen = width or next((one for one in (8, 16, 32, 64, 128) if max(given.values()) < 1 << one), 128)
     for name, kind in zip(names, kinds):

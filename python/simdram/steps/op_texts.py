@@ -7,14 +7,13 @@ from ..files.store import folder_of, load
 from ..launcher import run_program
 from ..launcher.faults import Fault
 from ..launcher.settings import Settings
-from ..rules.op_shapes import OpShape
+from ..rules.op_tree import OpShape
 from ..rules.ops_rules import op_shape
 from .code_parts import Part, with_statements
 from .row_names import RowNames
 
 
 def compiled(data: bytes, settings: Settings) -> Program:
-    """The program that an operation text compiles to."""
     with folder_of(ops=data) as folder:
         run_program.run(["compile", "ops", "prog"], folder, settings).check("compile")
         return Program.load(f"{folder}/prog")
@@ -29,7 +28,6 @@ class OpText(typing.NamedTuple):
     other: str = ""
 
     def names(self) -> RowNames:
-        """The names of the entry's rows."""
         return RowNames(self.shape, not self.other)
 
     def parts(self, found: list[Part]) -> list[Part]:

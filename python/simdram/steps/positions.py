@@ -97,9 +97,7 @@ def follow(code: typing.Sequence[Instruction], last: int, held: Held) -> list[in
     if one.kind != BNEZ:
         return [last + 1]
     asked = held[one.register]
-    if asked.terms:
-        return [one.number, last + 1]
-    return [one.number if asked.number else last + 1]
+    return [one.number, last + 1] if asked.terms else [one.number if asked.number else last + 1]
 
 
 Known = typing.TypeVar("Known")

@@ -4,7 +4,7 @@ import typing
 
 from ..assembler.forms import Form
 from ..assembler.loops_and_ways import Code, Jumps, outline
-from ..files.program import ADD, ADDI, BNEZ, INDEXED, MOV, SETI, SETN, SETT, SUBI, Row
+from ..files.program import ADD, ADDI, BNEZ, INDEXED, MOV, SETI, SETN, SETT, SUBI
 from .board import letter
 from .code_parts import Part
 from .positions import of_rows
@@ -81,16 +81,10 @@ class Held:
     def legend(self, part: Part) -> list[tuple[str, str]]:
         """What the subscripts of a part's rows are counted from: i, where there is one, or registers as the part begins."""
         bases = list(dict.fromkeys(int(name[1:]) for form in of_rows(part.code, part.held) for name in form.variables))
-        one = letter(part.code, part.held)
-        if one is None:
+        if (one := letter(part.code, part.held)) is None:
             return [(f"r{register}", self.meaning(part, register)) for register in bases]
         what = self.meaning(part, bases[0])
-        if not one[1] or all(row.index == bases[0] for row, form in indexed(part) if form.variables):
+        rows = (row for each in part.code for row in each.rows if row.space in INDEXED)
+        if not one[1] or all(row.index == bases[0] for row, form in zip(rows, of_rows(part.code, part.held)) if form.variables):
             return [("i", f"{one[0]}, {what}")]
         return [("i", f"{Form.of(one[0]).add(one[1])} as the part begins, {one[0]} is {what}")]
-
-
-def indexed(part: Part) -> list[tuple[Row, Form]]:
-    """The indexed rows of a part's commands, each with its position."""
-    rows = [row for one in part.code for row in one.rows if row.space in INDEXED]
-    return list(zip(rows, of_rows(part.code, part.held)))

@@ -2,7 +2,7 @@
 
 from ..files.decode import CELLS
 from ..files.program import BIT, INDEXED, RESULT, SOURCE, WORD, Row
-from ..rules.op_shapes import OpShape, Statement
+from ..rules.op_tree import OpShape, StatementShape
 from ..rules.word_ops import gate_value
 from .cell_values import ALL, drawn
 
@@ -43,7 +43,7 @@ class RowNames:
         return base + "'" * (base in CELLS)
 
 
-def let_patterns(shape: OpShape, statement: Statement) -> dict[str, int]:
+def let_patterns(shape: OpShape, statement: StatementShape) -> dict[str, int]:
     """The value of each let of a block at a position i, as a pattern of the rows that it reads."""
     found: dict[str, int] = {}
     states = [name for name in statement.targets if shape.defined.get(name) == "bit"]

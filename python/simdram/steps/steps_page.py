@@ -19,10 +19,13 @@ class Page(string.Template):
 
 
 def part_data(one) -> dict:
+    """A part as the page has it; of an iteration a digit for each value that is shown after a command."""
+    iterations = [{**each, "bits": ["".join(bits[name] for name in [*step.cells, *step.rows]) for step, bits in zip(one.done, each["bits"])]}
+                  for each in one.bits]
     return {"title": one.part.title(), "said": one.part.said + (f": {one.part.what}" if one.part.what else ""),
             "first": one.part.first, "loops": one.part.loops, "start": {**one.start}, "named": one.said,
             "subscripts": one.subscripts, "steps": [{**step._asdict(), "text": with_cells(step.text)} for step in one.done],
-            "counted": counted(one.bits), "iterations": [iteration(one, each) for each in one.bits]}
+            "counted": counted(one.bits), "iterations": iterations}
 
 
 def with_cells(text: str) -> str:
@@ -30,12 +33,6 @@ def with_cells(text: str) -> str:
     kind, *rows = text.replace(",", "").split()
     said = (f"{row} {address_text(int(row[1:]))}" if row[:1] == "B" and row[1:].isdigit() else row for row in rows)
     return f"{kind} {', '.join(said)}"
-
-
-def iteration(one, each: dict) -> dict:
-    """An iteration of a part as the page has it: a digit for each value that is shown after a command."""
-    bits = ["".join(bits[name] for name in [*step.cells, *step.rows]) for step, bits in zip(one.done, each["bits"])]
-    return {"registers": each["registers"], "held": each["held"], "inside": each["inside"], "bits": bits}
 
 
 def in_order(found: typing.Sequence, is_executed: bool) -> tuple[list[tuple[int, int]], bool]:

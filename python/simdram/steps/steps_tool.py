@@ -36,10 +36,8 @@ from ..assembler.at_width import branch, choice, choices
 from ..assembler.text_lines import TextLines, text_lines
 from ..files.decode import CELLS
 from ..files.program import Entry, Program
-from ..launcher.faults import Fault
 from ..launcher.overwrite import write
-from ..launcher.settings import Settings
-from ..launcher.tool_parser import Asked, option, tool
+from ..launcher.tool_parser import Asked, Fault, Settings, option, tool
 from .board import Board, changing, done_by
 from .cell_values import Names, Value
 from .cells_before import before
@@ -81,15 +79,13 @@ def steps(part: Part, rows: RowNames, names: Names, taken: dict[str, Value] | No
     return found
 
 
-def with_bit(value: str, bit: str) -> str:
-    """A value and its bit, where that is known and not the value itself."""
-    return value if bit in ("?", value) else f"{value}={bit}"
-
-
 def table(done: list[Step], bits: list[dict[str, str]] | None = None) -> list[str]:
     """A table of text: a line for each command, with the cells and the rows that it changed, and their bits where given."""
-    said = [{name: with_bit(value, bits[k][name] if bits else "?") for name, value in {**step.cells, **step.rows}.items()}
-            for k, step in enumerate(done)]
+    def shown(name: str, value: str, k: int) -> str:
+        bit = bits[k][name] if bits else "?"
+        return value if bit in ("?", value) else f"{value}={bit}"
+
+    said = [{name: shown(name, value, k) for name, value in {**step.cells, **step.rows}.items()} for k, step in enumerate(done)]
     width = max(len(step.text) for step in done)
     columns = {cell: max(len(cell), *(len(one[cell]) for one in said)) for cell in CELLS}
     lines = ["  ".join(["".ljust(width), *(cell.ljust(columns[cell]) for cell in CELLS), "rows"])]
@@ -162,8 +158,7 @@ class View:
 
 def of_widths(entry: Entry, n: int | None) -> str:
     """At which widths an entry does what is shown, where it begins with tests of the width."""
-    widths = [one.width for one in choices(entry)[0]]
-    if not widths:
+    if not (widths := [one.width for one in choices(entry)[0]]):
         return ""
     return f"at the width {n} alone" if n in widths else f"at all widths but {' and '.join(map(str, sorted(widths)))}"
 

@@ -12,9 +12,7 @@ import typing
 
 from ..files.image import HEAD_MAX, Table
 from ..files.store import load
-from ..launcher.faults import Fault
-from ..launcher.settings import Settings
-from ..launcher.tool_parser import Asked, option, tool
+from ..launcher.tool_parser import Asked, Fault, Settings, option, tool
 from ..rules.script_rules import loaded_script
 
 # the greatest text of flips that a guarded run reads
@@ -79,7 +77,6 @@ def text_of(flips: typing.Iterable[Flip]) -> str:
 
 
 def rate_of(text: str) -> float:
-    """The rate that a word says."""
     try:
         rate = float(text)
     except ValueError:
@@ -96,7 +93,6 @@ def cells_of(script: str, image: str) -> Cells:
 
 
 def seed_of(text: str) -> int:
-    """The seed that a word says."""
     if not (text.isascii() and text.isdigit()):
         raise argparse.ArgumentTypeError(f"a seed is a number without a sign, and not {text}")
     return int(text)

@@ -17,10 +17,8 @@ from ..costs.table_formats import FORMATS, Rows
 from ..files.image import Image
 from ..files.store import folder_of, load
 from ..launcher import run_program
-from ..launcher.faults import Fault
 from ..launcher.parallel import in_parallel
-from ..launcher.settings import Settings
-from ..launcher.tool_parser import Asked, option, tool
+from ..launcher.tool_parser import Asked, Fault, Settings, option, tool
 from .flips_tool import Cells, cells_of, drawn, rate_of, seed_of, text_of
 
 HEAD = ("rate", "runs", "right", "share", "low", "high", "flips_mean", "flips_least", "flips_most", "first_wrong_seed")
@@ -29,11 +27,8 @@ RUNS_MOST = 1_000_000
 NORMAL = 1.959964
 
 
-class Answers(typing.NamedTuple):
-    """What a guarded run answers: the lines that it prints, and the numbers of the objects that it leaves."""
-
-    printed: tuple[str, ...]
-    objects: tuple[tuple[str, bytes], ...]
+# what a guarded run answers: the lines that it prints, and the numbers of the objects that it leaves
+Answers = tuple[tuple[str, ...], tuple[tuple[str, bytes], ...]]
 
 
 class Run(typing.NamedTuple):
@@ -65,7 +60,7 @@ class Job:
             image = Image.read(load(out), out)
             # the votes at the end make the three copies of an object equal, so that the first is enough
             objects = tuple((one.name, image.cells(one.name)[0]) for one in image.objects if one.name.startswith("x"))
-            return Answers(tuple(filter(PRINTED.fullmatch, ended.out.splitlines())), objects)
+            return tuple(filter(PRINTED.fullmatch, ended.out.splitlines())), objects
 
     def run(self, rate: float, seed: int, right: Answers) -> Run:
         flips = text_of(drawn(self.cells, rate, seed))
@@ -91,9 +86,8 @@ def row_of(rate: float, runs: list[Run]) -> list:
 
 
 def survival(job: Job, rates: list[float], runs: int, seed: int) -> Rows:
-    """The table's rows, a row for each rate."""
     right = job.answers("")
-    if not right.printed and not any(data for _, data in right.objects):
+    if not right[0] and not any(data for _, data in right[1]):
         raise Fault(f"{job.script} has no answers: it prints nothing and leaves no object")
     asked = [(rate, seed + k) for rate in rates for k in range(runs)]
     found = in_parallel(lambda one: job.run(*one, right), asked, "survival")
