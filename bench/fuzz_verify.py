@@ -30,7 +30,7 @@ import program  # noqa: E402
 from columns import run, sources_of  # noqa: E402
 from simdram.assembler import assemble  # noqa: E402
 from simdram.assembler.walks import walk  # noqa: E402
-from simdram.files.store import FileFault  # noqa: E402
+from simdram.launcher.faults import FileFault  # noqa: E402
 from simdram.files.program import AP, AAP, BIT, BNEZ, B_ADDRESS, C_ADDRESS, RESULT, SPILL, WORD  # noqa: E402
 from simdram.files.program import Instruction, Program, Row  # noqa: E402
 from simdram.rules.verdicts import BAD_WALK, RIGHT, WRONG, verdict_of  # noqa: E402

@@ -24,7 +24,6 @@ import os
 import pathlib
 import random
 import re
-import resource
 import subprocess
 import sys
 import tempfile
@@ -36,7 +35,7 @@ import plain_walk  # noqa: E402
 import program  # noqa: E402
 from commands import op  # noqa: E402
 from simdram.files.program import Entry, Program  # noqa: E402
-from simdram.launcher.words import widths_of  # noqa: E402
+from simdram.launcher.widths import widths_of  # noqa: E402
 from word_ops import word_ops  # noqa: E402
 
 HERE = pathlib.Path(__file__).resolve().parent
@@ -90,14 +89,10 @@ def seconds_used(command) -> float:
     return used.ru_utime
 
 
-def limit() -> None:
-    """Ends this process after so many processor seconds."""
-    resource.setrlimit(resource.RLIMIT_CPU, (SECONDS, SECONDS))
-
-
 def verdict(path, ops, prog, width) -> str:
     """What `verify` says of a program of one op at a width: `right`, `unknown`, `late` or `wrong`."""
-    ended = subprocess.run([path, "verify", ops, prog, str(width)], capture_output=True, check=False, preexec_fn=limit)
+    limited = ["sh", "-c", 'ulimit -t "$0"; exec "$@"', str(SECONDS)]
+    ended = subprocess.run([*limited, path, "verify", ops, prog, str(width)], capture_output=True, check=False)
     return "late" if ended.returncode < 0 else VERDICTS.get(ended.returncode, "wrong")
 
 

@@ -5,13 +5,13 @@ import importlib
 import signal
 import sys
 
-from .files.store import FileFault, NotWritten
 from .launcher import streams
 from .launcher.commands import ALL, Command
-from .launcher.faults import WRONG, Fault
-from .launcher.streams import say
+from .launcher.faults import WRONG, Fault, FileFault, NotWritten
+from .launcher.help_text import all_commands, version
+from .launcher.say import say
 from .launcher.settings import Settings, taken
-from .launcher.words import all_commands, parser_of, version
+from .launcher.words import parser_of
 
 HELP = ("help", "--help", "-h")
 NO_MEMORY, INTERRUPTED = 10, 130
@@ -72,7 +72,7 @@ def status_of(words: list[str]) -> int:
             status = ended.code if isinstance(ended.code, int) else WRONG
         sys.stdout.flush()
         return status
-    except (Fault, FileFault) as fault:
+    except Fault as fault:
         say(str(fault))
         return fault.status
     except MemoryError:

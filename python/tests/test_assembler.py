@@ -13,13 +13,13 @@ from test_tools import Folder
 from test_words import called
 
 from simdram.assembler import Breach, assemble
-from simdram.assembler.forms import Form
 from simdram.assembler.at_width import one_width, other_width
+from simdram.assembler.forms import Form
 from simdram.assembler.reading import raw_text, readable_text
 from simdram.assembler.walks import Stuck, walk
-from simdram.files.store import FileFault
 from simdram.files.from_hex import bytes_in
 from simdram.files.program import Program
+from simdram.launcher.faults import FileFault
 
 CASE_HEX = re.compile(r"^hex \S+((?: [0-9A-Fa-f ]+)?(?:\n\|[0-9A-Fa-f ]*(?:#.*)?)*)$", re.MULTILINE)
 FEWEST = TOP / "examples" / "fewest"

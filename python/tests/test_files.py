@@ -8,11 +8,12 @@ import unittest
 from support import needs_program
 
 from simdram.files import columns, decode
-from simdram.files.store import FileFault, load, store
 from simdram.files.image import Image, NoRoom, Object, OutOfRange
 from simdram.files.program import Program
+from simdram.files.store import load, store
 from simdram.files.trace import Address, Event, Trace
 from simdram.launcher import run_program
+from simdram.launcher.faults import FileFault
 
 OPS = """op mac(a: word, b: word, c: word) -> y: word { t = mul(a, b); y = add(t, c); }
 op pick(a: bit, b: word) -> y: bit, z: word { serial down (g = 0) { g = maj(a, not(b), g); z = g; } y = copy(g); }

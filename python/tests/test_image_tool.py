@@ -16,8 +16,8 @@ from support import needs_numpy, numpy
 
 from simdram.__main__ import status_of
 from simdram.files import numbers
-from simdram.files.store import FileFault
 from simdram.files.image import Image
+from simdram.launcher.faults import FileFault
 
 
 class Tool(unittest.TestCase):

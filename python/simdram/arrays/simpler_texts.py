@@ -3,10 +3,10 @@
 import functools
 import typing
 
-from ..files.store import FileFault, folder_of
 from ..files.program import Entry, Program
+from ..files.store import folder_of
 from ..launcher import run_program
-from ..launcher.faults import Fault
+from ..launcher.faults import Fault, FileFault
 from ..launcher.settings import taken
 from ..optimise.named_rows import right_names
 from ..optimise.search import fewest

@@ -10,17 +10,17 @@ import sys
 from ..files.store import load
 from ..launcher.faults import WRONG
 from ..launcher.overwrite import write
-from ..launcher.tool_parser import Asked, Settings, tool
+from ..launcher.tool_parser import Asked, tool
 from . import Breach, assemble
 
 
 @tool("TEXT", "PROG")
-def main(asked: Asked, settings: Settings) -> None:
+def main(asked: Asked) -> None:
     data = load(asked.text, "micro")
     try:
         program = assemble(data)
     except Breach as fault:
         print("\n".join(fault.answer(asked.text, data).lines()), file=sys.stderr)
         return WRONG
-    write(asked.prog, program.file(), "program", settings)
+    write(asked.prog, program.file(), "program", asked.settings)
     print(f"assembled {len(program.entries)}")

@@ -6,12 +6,12 @@ assemble to the same file, byte for byte.
 """
 
 from ..files.program import Program
-from ..launcher.tool_parser import Asked, Settings, flag, tool
+from ..launcher.tool_parser import Asked, flag, tool
 from .reading import raw_text, readable_text
 
 
 @tool("PROG",
       flag("--raw", "the lines of `list`, instruction by instruction"))
-def main(asked: Asked, settings: Settings) -> None:
+def main(asked: Asked) -> None:
     program = Program.load(asked.prog)
     print(raw_text(program) if asked.raw else readable_text(program), end="")

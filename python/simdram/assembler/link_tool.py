@@ -5,8 +5,9 @@ are at most 32. OUT is a file of version 2.
 """
 
 from ..files.program import ENTRIES, Entry, Program
+from ..launcher.faults import Fault
 from ..launcher.overwrite import write
-from ..launcher.tool_parser import Asked, Fault, Settings, option, tool
+from ..launcher.tool_parser import Asked, option, tool
 
 
 def linked(paths: list[str]) -> Program:
@@ -25,9 +26,9 @@ def linked(paths: list[str]) -> Program:
 
 @tool(option("progs", "PROG", nargs="+"),
       option("out", "OUT"))
-def main(asked: Asked, settings: Settings) -> None:
+def main(asked: Asked) -> None:
     if asked.out in asked.progs:
         raise Fault(f"{asked.out} is both linked and written; OUT is another file")
     program = linked(asked.progs)
-    write(asked.out, program.file(), "program", settings)
+    write(asked.out, program.file(), "program", asked.settings)
     print(f"linked {len(program.entries)}")

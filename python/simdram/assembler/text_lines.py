@@ -4,8 +4,9 @@ import contextlib
 import os
 import typing
 
-from ..files.store import FileFault, load
 from ..files.program import Entry
+from ..files.store import load
+from ..launcher.faults import FileFault
 from ..rules.answer import Breach
 from ..rules.tokens import line_of
 from .lowering import entry_of, lowered

@@ -13,8 +13,9 @@ commands, rows and ratio, for each file. --total is a table for a paper: the com
 
 import os
 
-from ..launcher.tool_parser import Asked, Fault, Settings, flag, option, tool
-from ..launcher.words import widths_of
+from ..launcher.faults import Fault
+from ..launcher.tool_parser import Asked, flag, option, tool
+from ..launcher.widths import widths_of
 from .costs import EntryCost, costs_at
 from .table_formats import FORMATS, Rows
 
@@ -115,7 +116,7 @@ def names_of(text: str) -> list[str]:
       option("--words", help="words of a row, for the commands for each element, of one file", type=int, default=1),
       option("--format", help="how the table is written", choices=sorted(FORMATS), default="text"),
       option("--csv", help="as --format csv", action="store_const", const="csv", dest="format"))
-def main(asked: Asked, settings: Settings) -> None:
+def main(asked: Asked) -> None:
     if not (1 <= asked.banks <= 16 and 1 <= asked.words <= 1024):
         raise Fault("--banks is 1 to 16, and --words 1 to 1024")
     if len(asked.progs) > 1 and (asked.banks, asked.words) != (1, 1):
@@ -125,7 +126,7 @@ def main(asked: Asked, settings: Settings) -> None:
     if asked.total and asked.columns:
         raise Fault("--total has its own columns: leave out --columns")
     widths = widths_of(asked.widths)
-    found = of_ops(costs_at(asked.progs, widths, settings, "cost-table"), names_of(asked.ops))
+    found = of_ops(costs_at(asked.progs, widths, asked.settings, "cost-table"), names_of(asked.ops))
     if asked.total:
         rows = totals(asked.progs, widths, found)
     elif len(asked.progs) > 1:

@@ -13,9 +13,11 @@ import argparse
 import itertools
 import typing
 
-from ..launcher.streams import say
-from ..launcher.tool_parser import Asked, Fault, Settings, flag, option, tool
-from ..launcher.words import widths_of
+from ..launcher.faults import Fault
+from ..launcher.say import say
+from ..launcher.settings import Settings
+from ..launcher.tool_parser import Asked, flag, option, tool
+from ..launcher.widths import widths_of
 from . import formulas, picture
 from .cost_table import labels_of, names_of, of_ops
 from .costs import EntryCost, costs_until_stuck
@@ -98,16 +100,16 @@ def width(text: str) -> int:
       flag("--log", "a logarithmic axis for the counts"),
       option("--curve", "NAME=FORMULA", "a formula beside the entries", action="append", default=[]),
       option("--ceiling", "NAME=FORMULA", "a formula in an entry's colour", action="append", default=[]))
-def main(asked: Asked, settings: Settings) -> None:
+def main(asked: Asked) -> None:
     *progs, out = asked.files
     if not progs:
         raise Fault("plot takes program files and the picture's name after them: OUT is missing")
-    picture.check_out(out, settings)
+    picture.check_out(out, asked.settings)
     widths = sorted(widths_of(asked.widths or f"1-{asked.to}"))
     others = drawn_of(asked.curve, widths)
-    found = curves(list(dict.fromkeys(progs)), names_of(asked.ops), widths, asked.column, settings)
+    found = curves(list(dict.fromkeys(progs)), names_of(asked.ops), widths, asked.column, asked.settings)
     ceilings = drawn_of(asked.ceiling, widths)
     if unknown := [name for name in ceilings if name not in found]:
         raise Fault(f"--ceiling names {unknown[0]}, and these are drawn: {', '.join(found)}")
     lines = Lines(widths, asked.log).all(found, ceilings, others)
-    picture.write(Picture(lines, "width n", COLUMNS[asked.column], is_high_log=asked.log), out, settings)
+    picture.write(Picture(lines, "width n", COLUMNS[asked.column], is_high_log=asked.log), out, asked.settings)

@@ -14,8 +14,10 @@ from ..files.program import AAP, Entry, Program
 from ..files.store import folder_of, load
 from ..launcher import run_program
 from ..launcher.commands import MAGIC
-from ..launcher.tool_parser import Asked, Fault, Settings, flag, option, tool
-from ..launcher.words import widths_of
+from ..launcher.faults import Fault
+from ..launcher.settings import Settings
+from ..launcher.tool_parser import Asked, flag, option, tool
+from ..launcher.widths import widths_of
 from ..rules.answer import first_breach
 from ..rules.ops_rules import read_ops
 from ..steps.code_parts import Part, parts
@@ -140,8 +142,8 @@ def csv_rows(one: Profile) -> typing.Iterator[list]:
       option("--ops", "OPS", "the operation text that PROG was compiled from"),
       option("--op", "NAME", "this entry alone"),
       flag("--csv", "with commas, for other programs"))
-def main(asked: Asked, settings: Settings) -> None:
-    found = of_file(asked.file, widths_of(",".join(asked.widths), "N"), settings, asked.ops)
+def main(asked: Asked) -> None:
+    found = of_file(asked.file, widths_of(",".join(asked.widths), "N"), asked.settings, asked.ops)
     names = list(dict.fromkeys(one.name for one in found))
     if asked.op and asked.op not in names:
         raise Fault(f"{asked.file} has no entry {asked.op}: it has {', '.join(names) or 'none'}")

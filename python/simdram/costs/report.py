@@ -15,8 +15,9 @@ import typing
 from ..files.image import HEAD_MAX, Table
 from ..files.store import load
 from ..launcher.commands import MAGIC
+from ..launcher.faults import Fault
 from ..launcher.overwrite import content
-from ..launcher.tool_parser import Asked, Fault, Settings, flag, option, tool
+from ..launcher.tool_parser import Asked, flag, option, tool
 from ..rules.script_rules import Instruction, loaded_script
 from .table_formats import as_text
 
@@ -114,7 +115,7 @@ def text_of(report: str | None) -> str:
       flag("--json", "one JSON object"),
       option("--script", "SCRIPT", "the script that was executed; needs --image"),
       option("--image", "IMAGE", "the image that it was executed on"))
-def main(asked: Asked, _settings: Settings) -> None:
+def main(asked: Asked) -> None:
     if asked.script and not asked.image:
         raise Fault("--script needs --image, the image that the script ran on")
     table = Table.read(load(asked.image, "image")[:HEAD_MAX], asked.image) if asked.image else None

@@ -3,7 +3,7 @@
 import re
 import typing
 
-from .store import FileFault
+from ..launcher.faults import FileFault
 
 NAME = re.compile(rb"[A-Za-z_][A-Za-z0-9_]{0,15}")
 NAME_BYTES = 16

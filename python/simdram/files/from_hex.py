@@ -7,8 +7,9 @@ program file can be written by hand with a comment for each instruction, such as
 import re
 
 from ..launcher.commands import MAGIC
+from ..launcher.faults import Fault
 from ..launcher.overwrite import write
-from ..launcher.tool_parser import Asked, Fault, Settings, tool
+from ..launcher.tool_parser import Asked, tool
 from .store import load
 
 BYTES = re.compile("(?:[0-9a-fA-F]{2})+")
@@ -26,7 +27,7 @@ def bytes_in(note: str) -> bytes:
 
 
 @tool("NOTE", "FILE")
-def main(asked: Asked, settings: Settings) -> None:
+def main(asked: Asked) -> None:
     data = bytes_in(asked.note)
     kind = next((kind for kind, magic in MAGIC.items() if data.startswith(magic)), "bytes")
-    write(asked.file, data, kind, settings)
+    write(asked.file, data, kind, asked.settings)

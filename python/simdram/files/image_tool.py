@@ -20,10 +20,10 @@ import re
 import sys
 import typing
 
+from ..launcher.faults import Fault, FileFault
 from ..launcher.overwrite import write
-from ..launcher.tool_parser import Fault, Settings, about
+from ..launcher.tool_parser import Settings, about
 from . import numbers
-from .store import FileFault
 from .image import Image, NoObject, NoRoom, OutOfRange
 
 OBJECT = re.compile(r"([A-Za-z_][A-Za-z0-9_]{0,15}):(\d+)(?:=(-?\d+(?:,-?\d+)*),?|/(\d+))")

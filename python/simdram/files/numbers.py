@@ -13,8 +13,9 @@ import re
 import struct
 import sys
 
+from ..launcher.faults import FileFault
 from . import columns
-from .store import FileFault, load
+from .store import load
 
 ARRAY_MAGIC = b"\x93NUMPY"
 KIND = re.compile(r"([<>|=])([buif?OcSUV])(\d*)")

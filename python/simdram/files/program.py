@@ -4,9 +4,10 @@ import dataclasses
 import re
 import typing
 
+from ..launcher.faults import FileFault
 from . import decode
-from .store import FileFault, load
 from .fields import Fields, name_field
+from .store import load
 
 MAGIC = b"SDMP"
 REGISTERS, SPILLS, CONSTANTS = 8, 32, 2
@@ -194,27 +195,34 @@ def read_instruction(fields: Fields, head: Entry, count: int, at: int) -> Instru
 
 def faults_of(one: Instruction, head: Entry, count: int, at: int) -> typing.Iterator[tuple[str, str]]:
     """What is wrong with an instruction: registers, number and unnamed bytes, target, rows, and that it is the last."""
-    operands, named = OPERANDS[one.kind], NAMED[one.kind]
+    operands = OPERANDS[one.kind]
     for letter, register in (("r", one.register), ("s", one.other)):
         if letter in operands and register >= REGISTERS:
             yield "instruction", f", {one.name}, names register {register}; registers are 0 to {REGISTERS - 1}"
     if "k" in operands and one.number > LARGEST:
         yield "instruction", f", {one.name}, has the number {one.number}; numbers are 0 to {LARGEST}"
-    for spare in (spare for spare in range(named, len(one.raw)) if one.raw[spare]):
-        yield "instruction", f", {one.name}, has {one.raw[spare]} in byte {spare}, which is not named there and has to be 0"
+    for spare in range(NAMED[one.kind], len(one.raw)):
+        if one.raw[spare]:
+            yield "instruction", f", {one.name}, has {one.raw[spare]} in byte {spare}, which is not named there and has to be 0"
     if one.kind == BNEZ and one.number >= count:
         yield "target", f" jumps to {one.number}, and the entry has {count} instructions"
-    for number, row in enumerate(one.rows, 1):
-        if wrong := wrong_row(row, head):
-            yield "row", f", {one.name}: row {number} {wrong}"
-    first, *others = one.rows or [None]
-    if first and first.space == B_ADDRESS and not decode.legal_first("B", first.which):
-        yield "row", f", {one.name}: row 1 is {first}: B8 to B11 raise two wordlines, and only the second row may be one of them"
-    for row in (row for row in others if row.space in (C_ADDRESS, SOURCE)):
-        what = "constant" if row.space == C_ADDRESS else "source"
-        yield "row", f", {one.name}: row 2 is {row}, a {what}; no command may write it"
+    for wrong in faults_of_rows(one.rows, head):
+        yield "row", f", {one.name}: {wrong}"
     if at == count - 1 and one.kind != DONE:
         yield "no_done", " is the last and not DONE"
+
+
+def faults_of_rows(rows: list[Row], head: Entry) -> typing.Iterator[str]:
+    """What is wrong with the rows of a command, first with each by itself, then with where it stands."""
+    for number, row in enumerate(rows, 1):
+        if wrong := wrong_row(row, head):
+            yield f"row {number} {wrong}"
+    for first in rows[:1]:
+        if first.space == B_ADDRESS and not decode.legal_first("B", first.which):
+            yield f"row 1 is {first}: B8 to B11 raise two wordlines, and only the second row may be one of them"
+    for second in rows[1:]:
+        if second.space in (C_ADDRESS, SOURCE):
+            yield f"row 2 is {second}, {'a constant' if second.space == C_ADDRESS else 'a source'}; no command may write it"
 
 
 def counted(count: int, what: str) -> str:

@@ -14,7 +14,8 @@ import re
 import sys
 
 from ..files.store import load
-from ..launcher.tool_parser import Asked, Fault, Settings, flag, option, tool
+from ..launcher.faults import Fault
+from ..launcher.tool_parser import Asked, flag, option, tool
 from ..rules.answer import first_breach
 from ..rules.ops_rules import RESERVED, RESULTS, SOURCES, read_ops
 from ..rules.tokens import NAME_MAX
@@ -133,7 +134,7 @@ def calls(net: Netlist, nets: list[Netlist], path: str) -> str:
       option("--bit", "NAME", "an input that is one bit for all positions", action="append", default=[]),
       option("--genlib", "LIBRARY", "the library of the gates in .gate lines"),
       option("--state", "NAME=BIT", "how a state begins", action="append", default=[]))
-def main(asked: Asked, _settings: Settings) -> None:
+def main(asked: Asked) -> None:
     starts = {}
     for one in asked.state:
         name, equals, bit = one.partition("=")

@@ -12,8 +12,9 @@ in .aag. Without OUT the graph is printed.
 import sys
 
 from ..files.store import load
+from ..launcher.faults import Fault
 from ..launcher.overwrite import write
-from ..launcher.tool_parser import Asked, Fault, Settings, flag, option, tool
+from ..launcher.tool_parser import Asked, flag, option, tool
 from ..rules.op_tree import OpShape, StatementShape
 from ..rules.ops_rules import op_shape, shapes_of
 from .block_graph import Compiled, as_compiled, written
@@ -40,12 +41,12 @@ def block_of(path: str, data: bytes, name: str | None, number: int) -> tuple[OpS
       option("--format", choices=FORMATS, default="dot"),
       flag("--compiled", "the graph of the loop that the block is compiled to"),
       option("--positions", "K", "over how many positions, as it is written", type=int, default=1))
-def main(asked: Asked, settings: Settings) -> None:
+def main(asked: Asked) -> None:
     data = load(asked.ops, "ops")
     shape, block = block_of(asked.ops, data, asked.op, asked.block)
     if not 1 <= asked.positions <= 16 or asked.compiled and asked.positions != 1:
         raise Fault("--positions is 1 to 16, and goes with the graph as it is written")
-    graph, positions, left_out = (as_compiled(block, shape, data, settings) if asked.compiled else
+    graph, positions, left_out = (as_compiled(block, shape, data, asked.settings) if asked.compiled else
                                   Compiled(written(block, shape, asked.positions), asked.positions, []))
     states = ", ".join(f"{name} = {bit}" for name, bit in block.starts.items())
     notes = [f"{shape.name}, {'compiled' if asked.compiled else 'as written'}: {len(live(graph))} majority nodes, {block.direction}wards, "
@@ -54,6 +55,6 @@ def main(asked: Asked, settings: Settings) -> None:
     made = {"dot": lambda: as_dot(graph, shape.name).encode(), "blif": lambda: as_blif(graph, shape.name, notes).encode(),
             "aiger": lambda: as_aiger(graph, (asked.out or ".aag").endswith(".aag"))}[asked.format]()
     if asked.out:
-        write(asked.out, made, asked.format, settings)
+        write(asked.out, made, asked.format, asked.settings)
     else:
         sys.stdout.buffer.write(made)

@@ -12,8 +12,8 @@ import time
 
 from . import fast_toolchain
 from .faults import NoProgram
-from .settings import TOP, is_top
-from .streams import say
+from .places import TOP, is_top
+from .say import say
 
 PROVED, UNPROVED = "simdram", "unproved"
 # the folders of a crate that a program is made from
@@ -86,9 +86,8 @@ def compiled(work: pathlib.Path) -> pathlib.Path:
     fast, slow = work / "fast", work / "slow"
     fast.mkdir()
     if toolchain := fast_toolchain.made_in(fast / "toolchain"):
-        rt, mark = toolchain
-        try_program(fast, str(rt))
-        if (fast / "copy").exists() and mark.exists():
+        try_program(fast, str(toolchain.rt))
+        if (fast / "copy").exists() and toolchain.mark.exists():
             return fast / "copy"
     say("this toolchain does not compile with optimization: the program will be slow (some 50 times slower than the proved one)")
     slow.mkdir()
@@ -109,12 +108,16 @@ def compile_unproved() -> None:
         except BlockingIOError:
             say("another call compiles the program; waiting for it")
             fcntl.flock(lock, fcntl.LOCK_EX)
-        if not is_old(out_folder() / UNPROVED, SOURCES[UNPROVED]):
-            return
-        say("compiling the program without proofs; this takes about a minute, once")
-        began, new = time.time_ns(), out_folder() / "unproved.new"
-        with tempfile.TemporaryDirectory(prefix="simdram_build_") as name:
-            copy = compiled(pathlib.Path(name))
-            os.utime(copy, ns=(began, began))
-            shutil.move(str(copy), new)
-        os.replace(new, out_folder() / UNPROVED)  # it has its name when it is whole
+        if is_old(out_folder() / UNPROVED, SOURCES[UNPROVED]):
+            compile_into_place()
+
+
+def compile_into_place() -> None:
+    """Compiles the program, and gives it its name when it is whole."""
+    say("compiling the program without proofs; this takes about a minute, once")
+    began, new = time.time_ns(), out_folder() / "unproved.new"
+    with tempfile.TemporaryDirectory(prefix="simdram_build_") as name:
+        copy = compiled(pathlib.Path(name))
+        os.utime(copy, ns=(began, began))
+        shutil.move(str(copy), new)
+    os.replace(new, out_folder() / UNPROVED)

@@ -1,9 +1,9 @@
 """Builds the program without proofs if none is built, and prints the path of the program that runs."""
 
 from . import run_program
-from .tool_parser import Asked, Settings, tool
+from .tool_parser import Asked, tool
 
 
 @tool()
-def main(_asked: Asked, settings: Settings) -> None:
-    print(run_program.program(settings))
+def main(asked: Asked) -> None:
+    print(run_program.program(asked.settings))

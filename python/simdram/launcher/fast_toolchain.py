@@ -8,6 +8,7 @@ the sanitizer. The program does the same, some 50 times as fast.
 import pathlib
 import shlex
 import shutil
+import typing
 
 COMMAND = ("rt", "rtlib.py")
 
@@ -20,11 +21,17 @@ def link_all(source: pathlib.Path, folder: pathlib.Path, but: tuple[str, ...]) -
             (folder / path.name).symlink_to(path)
 
 
-def made_in(folder: pathlib.Path) -> tuple[pathlib.Path, pathlib.Path] | None:
-    """Makes the toolchain of links in a folder that is not there yet, if the installed one has the files that it needs: its
-    command `rt`, and the file that its clang makes when it has optimized the program."""
-    real, mark = pathlib.Path(shutil.which("rt") or "").resolve(), folder / "optimized"
-    kit = real.parent.parent
+class FastToolchain(typing.NamedTuple):
+    """The folder of links: its command `rt`, and the file that its clang makes when it has optimized the program."""
+
+    rt: pathlib.Path
+    mark: pathlib.Path
+
+
+def made_in(folder: pathlib.Path) -> FastToolchain | None:
+    """Makes the toolchain of links in a folder that is not there yet, if the installed one has the files that it needs."""
+    real = pathlib.Path(shutil.which("rt") or "").resolve()
+    kit, made = real.parent.parent, FastToolchain(folder / "bin" / "rt", folder / "optimized")
     clang = kit / "toolchain" / "bin" / "clang"
     if not clang.is_file() or not all((real.parent / name).is_file() for name in COMMAND):
         return None
@@ -35,7 +42,7 @@ def made_in(folder: pathlib.Path) -> tuple[pathlib.Path, pathlib.Path] | None:
     for name in COMMAND:  # `rt` looks for the toolchain beside its real path
         shutil.copy(real.parent / name, folder / "bin" / name)
     script = folder / "toolchain" / "bin" / "clang"
-    names = f"#!/bin/sh\nmark={shlex.quote(str(mark))} clang={shlex.quote(str(clang))}\n"
+    names = f"#!/bin/sh\nmark={shlex.quote(str(made.mark))} clang={shlex.quote(str(clang))}\n"
     script.write_text(names + pathlib.Path(__file__).with_name("clang.sh").read_text(encoding="utf-8"), encoding="utf-8")
     script.chmod(0o755)
-    return folder / "bin" / "rt", mark
+    return made

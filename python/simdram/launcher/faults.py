@@ -1,4 +1,4 @@
-"""What ends a tool or the launcher early: one line, and a status."""
+"""What ends a tool or the launcher early, or what a file module refuses: one line, and a status."""
 
 # the launcher's own status, where it cannot give the program
 NO_PROGRAM = 125
@@ -16,3 +16,26 @@ class NoProgram(Fault):
     """There is no program to run."""
 
     status = NO_PROGRAM
+
+
+class FileFault(Fault):
+    """A file that is refused: its path, the place in it, the word of the rule, and what is wrong in a sentence.
+
+    The place is `byte 6` or `line 3`, or empty where the fault is of the whole file. The status is that of the program.
+    """
+
+    def __init__(self, path: str, place: str, word: str, what: str) -> None:
+        super().__init__(": ".join(part for part in (str(path), " ".join((place, word)).strip(), what) if part))
+        self.path, self.place, self.word, self.what = str(path), place, word, what
+
+
+class NotWritten(FileFault):
+    """A file that cannot be written."""
+
+    status = 3
+
+
+class TooLong(FileFault):
+    """A file of more bytes than its kind may have."""
+
+    status = 11

@@ -10,7 +10,7 @@ from ..rules.aftermath import Aftermath
 from . import overwrite, run_program
 from .commands import ALL, Command
 from .faults import WRONG
-from .streams import say
+from .say import say
 from .settings import Settings
 from .words import wrong_words
 
@@ -68,8 +68,7 @@ def launch(words: list[str], settings: Settings) -> int:
     """Runs a command of the program."""
     command = ALL.get(words[0]) if words else None
     flags = [word for word in words[1:] if word in dict(command.flags)] if command else []
-    needed = [word for word in command.words if not word.is_optional] if command else []
-    is_whole = bool(needed) and command.is_program and len(needed) <= len(words) - 1 - len(flags) <= len(command.words)
+    is_whole = command is not None and command.is_program and command.has_all(len(words) - 1 - len(flags))
     refusal = overwrite.refusal(command, words[1:]) if is_whole and not settings.force else None
     if wrong := wrong_words(words):
         return refused_words(wrong, words, settings)

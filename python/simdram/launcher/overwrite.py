@@ -15,11 +15,12 @@ import filecmp
 import os
 import re
 import tempfile
+import typing
 
-from ..files.store import LARGEST, LIMITS, NotWritten, keep, left_beside, load, new_file, place_of, start_of, store
+from ..files.store import LARGEST, LIMITS, keep, left_beside, load, new_file, place_of, start_of, store
 from .commands import ALL, KINDS, MAGIC, Command
-from .faults import Fault
-from .streams import say
+from .faults import Fault, NotWritten
+from .say import say
 from .settings import Settings
 from .words import PLACES
 
@@ -129,6 +130,14 @@ def write(path: str, data: bytes, kind: str, settings: Settings) -> None:
         say_kept(path, kind, copy, settings)
 
 
+class Kept(typing.NamedTuple):
+    """A file that a command may write, its kind, and the copy of what it held before."""
+
+    path: str
+    kind: str
+    copy: str
+
+
 class Written:
     """The files that a command of the program writes, and its words with their links resolved."""
 
@@ -139,13 +148,13 @@ class Written:
         self.files = [(word, text) for word, text in pairs if word.is_written]
 
     def keep(self) -> None:
-        """Keeps what stands where the command may write: of each file its kind, and the copy of what it held before."""
-        self.copies: list[tuple[str, str, str]] = []
+        """Keeps what stands where the command may write."""
+        self.copies: list[Kept] = []
         for word, text in self.files:
             place = place_of(text)
             told_of(place, self.settings)
             if is_full(place) and not self.settings.force and may_stand(text, word.kind):
-                self.copies.append((place, word.kind, kept(place)))
+                self.copies.append(Kept(place, word.kind, kept(place)))
 
     def settle(self) -> None:
         """Removes the copies of files that the command left as they were, and tells of the others."""

@@ -8,7 +8,7 @@ import time
 import typing
 
 from . import run_program
-from .streams import show
+from .say import show
 
 Item = typing.TypeVar("Item")
 Result = typing.TypeVar("Result")

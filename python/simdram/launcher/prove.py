@@ -11,8 +11,8 @@ import time
 from .build import PROVED, SOURCES, home, is_old, need_rt, out_folder
 from .faults import NoProgram
 from .minutes import SECONDS, seconds_of
-from .streams import say, show
-from .tool_parser import Asked, Settings, tool
+from .say import say, show
+from .tool_parser import Asked, tool
 
 INTERRUPTED = 130
 # a crate that took less was proved before
@@ -135,7 +135,7 @@ def prove() -> None:
 
 
 @tool()
-def main(_asked: Asked, _settings: Settings) -> None:
+def main(_asked: Asked) -> None:
     if is_old(out_folder() / PROVED, SOURCES[PROVED]):
         prove()
     print(out_folder() / PROVED)

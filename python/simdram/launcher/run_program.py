@@ -13,8 +13,9 @@ import typing
 
 from . import build
 from .faults import Fault, NoProgram
-from .settings import TOP, Settings, taken
-from .streams import is_new_here, say
+from .places import TOP
+from .say import is_new_here, say
+from .settings import Settings, taken
 
 PASSED_ON = (signal.SIGINT, signal.SIGTERM, signal.SIGHUP, signal.SIGQUIT)
 

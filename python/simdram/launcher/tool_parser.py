@@ -1,4 +1,4 @@
-"""What a tool is made of: the parser of its words, whose help is the tool's docstring, its settings, and its faults."""
+"""The parser of a tool's words: its help is the tool's docstring."""
 
 import argparse
 import ast
@@ -7,13 +7,16 @@ import sys
 import typing
 
 from .commands import TOOLS
-from .faults import Fault
 from .settings import Settings
 
-__all__ = ["Asked", "Fault", "Settings", "about", "flag", "option", "tool"]
 
-Asked = argparse.Namespace
-Main = typing.Callable[[Asked, Settings], int | None]
+class Asked(argparse.Namespace):
+    """A tool's words as they were parsed, each by its name, and the launcher's settings."""
+
+    settings: Settings
+
+
+Main = typing.Callable[[Asked], int | None]
 
 
 def about(module: str) -> str:
@@ -29,37 +32,43 @@ class Parser(argparse.ArgumentParser):
         (file or sys.stderr).write(message)
 
 
-# a word of a tool, or an option where it begins with `-`, and what argparse takes for it
-Option = tuple[str, dict[str, typing.Any]]
+class Option(typing.NamedTuple):
+    """A word of a tool, or an option where it begins with `-`, and what argparse takes for it."""
+
+    name: str
+    more: dict[str, typing.Any]
 
 
-def option(name: str, metavar: str | tuple[str, ...] = "", help: str = "", **more: typing.Any) -> Option:
-    return name, {**{key: text for key, text in (("metavar", metavar), ("help", help)) if text}, **more}
+def option(name: str, metavar: str | None = None, help: str | None = None, **more: typing.Any) -> Option:
+    return Option(name, {"metavar": metavar, "help": help, **more})
 
 
 def flag(name: str, help: str) -> Option:
     """An option that takes no word."""
-    return option(name, "", help, action="store_true")
+    return Option(name, {"help": help, "action": "store_true"})
 
 
-def parser_of(module: str, words: typing.Iterable[str | Option]) -> Parser:
-    """The parser of a tool by its module: words without options are names, of which `[WORD]` may be left out."""
+def parser_of(module: str, options: typing.Iterable[Option]) -> Parser:
+    """The parser of a tool by its module."""
     name = next(command.name for command in TOOLS if module.endswith(f".{command.module}"))
     made = Parser(prog=f"simdram {name}", description=about(module), formatter_class=argparse.RawDescriptionHelpFormatter)
-    for one in words:
-        if isinstance(one, str):
-            one = option(one.strip("[]").lower(), one.strip("[]"), nargs="?" if one.startswith("[") else None)
-        made.add_argument(one[0], **one[1])
+    for one in options:
+        made.add_argument(one.name, **one.more)
     return made
 
 
 def tool(*words: str | Option) -> typing.Callable[[Main], typing.Callable[[list[str], Settings], int]]:
-    """Makes a tool's `main` from what is done with its parsed words, which may give a status."""
+    """Makes a tool's `main` from what is done with its parsed words, which may give a status. Words without options are names,
+    of which `[WORD]` may be left out."""
+    options = [option(one.strip("[]").lower(), one.strip("[]"), nargs="?" if one.startswith("[") else None)
+               if isinstance(one, str) else one for one in words]
+
     def of(main: Main) -> typing.Callable[[list[str], Settings], int]:
         def called(given: list[str], settings: Settings) -> int:
-            parser = parser_of(main.__module__, words)
+            parser = parser_of(main.__module__, options)
             # options may stand among several words of one name
-            has_several = any(not isinstance(one, str) and "nargs" in one[1] for one in words)
-            return main((parser.parse_intermixed_args if has_several else parser.parse_args)(given), settings) or 0
+            has_several = any(one.more.get("nargs") in ("*", "+") for one in options)
+            parse = parser.parse_intermixed_args if has_several else parser.parse_args
+            return main(parse(given, Asked(settings=settings))) or 0
         return called
     return of

@@ -1,48 +1,14 @@
-"""The words of a command of the program: its parser, help, and what is wrong with a command line that it refuses."""
+"""The words of a command of the program: its parser, and what is wrong with a command line that it refuses."""
 
 import argparse
 import difflib
 import functools
-import pathlib
 import re
-import string
-import subprocess
 import typing
 
-from .commands import ALL, HOLDS, PROGRAM, TOOLS, Command, Word
-from .faults import Fault
-from .settings import TOP
+from .commands import ALL, HOLDS, Command, Word
 from .tool_parser import Parser
-
-LEAST, MOST = 1, 128
-ITEM = re.compile(r"([0-9]+)(?:-([0-9]+))?")
-
-
-def listed(text: str) -> list[int] | None:
-    """The widths of a list in its order, numbers and spans A-B with commas between them; none where it is no such list."""
-    found: list[int] = []
-    for word in text.split(","):
-        match = ITEM.fullmatch(word)
-        if not match or len(word) > 7:
-            return None
-        first, last = int(match[1]), int(match[2] or match[1])
-        if not LEAST <= first <= last <= MOST:
-            return None
-        found += range(first, last + 1)
-    return found
-
-
-def is_rising(text: str) -> bool:
-    """Whether it is a list as the program takes it, each width greater than the one before."""
-    found = listed(text)
-    return found is not None and all(one < other for one, other in zip(found, found[1:]))
-
-
-def widths_of(text: str, name: str = "--widths") -> list[int]:
-    """The widths of a list, each once."""
-    if (found := listed(text)) is None:
-        raise Fault(f"{name} takes widths from {LEAST} to {MOST}, and spans of them, with commas between them, as 4,8,16-20, and not {text}")
-    return list(dict.fromkeys(found))
+from .widths import is_rising
 
 
 class Number(typing.NamedTuple):
@@ -162,28 +128,3 @@ def wrong_words(words: list[str]) -> str | None:
     except WrongWords as wrong:
         return str(wrong)
     return wrong_together(command, [word for word in words[1:] if word not in dict(command.flags)])
-
-
-VERSION = "0.1.0"
-
-
-def columns(commands) -> str:
-    """Each command's arguments, what it does, and an example."""
-    return "".join(f"  {command.usage()}\n      {command.says}\n      simdram {command.example}\n" for command in commands)
-
-
-def all_commands() -> str:
-    template = string.Template(pathlib.Path(__file__).with_name("help.txt").read_text(encoding="utf-8"))
-    return template.substitute(program=columns(PROGRAM), tools=columns(TOOLS))
-
-
-def version() -> str:
-    """The version, and the commit where git tells it."""
-    said = f"simdram {VERSION}"
-    if TOP is not None and (pathlib.Path(TOP) / ".git").exists():
-        try:
-            ended = subprocess.run(["git", "-C", str(TOP), "rev-parse", "--short", "HEAD"], capture_output=True, text=True, check=False)
-        except OSError:
-            return said
-        said += f" ({ended.stdout.strip()})" if ended.returncode == 0 else ""
-    return said

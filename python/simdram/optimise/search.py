@@ -10,14 +10,14 @@ import typing
 
 from ..assembler.at_width import choice
 from ..assembler.walks import walk
-from ..files.store import LIMITS, FileFault, NotWritten, folder_of, store
 from ..files.program import Entry, Program
+from ..files.store import LIMITS, folder_of, store
 from ..launcher import run_program
-from ..launcher.faults import Fault
+from ..launcher.faults import Fault, FileFault, NotWritten
 from ..launcher.overwrite import why_not_written, write
 from ..launcher.parallel import in_parallel
+from ..launcher.say import say
 from ..launcher.settings import Settings
-from ..launcher.streams import say
 from .named_rows import right_names, with_named_rows
 
 # the seed, and how many changes are tried for each command: about five processor seconds for 100 commands

@@ -7,13 +7,14 @@ import stat
 import sys
 
 from ..assembler.at_width import one_width, other_width
-from ..files.store import FileFault, load
 from ..files.image import HEAD_MAX, Table
 from ..files.program import Program
+from ..files.store import load
 from ..launcher.commands import Command
+from ..launcher.faults import FileFault
 from ..launcher.overwrite import why_not_written
 from ..launcher.settings import Settings
-from ..launcher.words import listed
+from ..launcher.widths import listed
 from . import answers
 from .answer import Answer
 

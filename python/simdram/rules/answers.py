@@ -4,19 +4,19 @@ import functools
 import subprocess
 
 from ..assembler import assemble
-from ..files.store import FileFault
 from ..files.image import Image, Table
 from ..files.program import Entry, Program
 from ..files.trace import Trace
 from ..launcher import run_program
 from ..launcher.commands import KINDS, MAGIC
+from ..launcher.faults import FileFault
 from ..launcher.overwrite import content
 from ..launcher.settings import Settings
 from .answer import Answer, Breach, first_breach
-from .script_rules import check_flips, read_script
 from .ops_rules import read_ops
 from .query_rules import read_query
 from .script_refusals import Checker, check_scan, refused
+from .script_rules import check_flips, read_script
 
 READERS = {"program": Program, "image": Image, "trace": Trace}
 TEXTS = {"ops": read_ops, "script": read_script, "query": read_query, "micro": assemble}

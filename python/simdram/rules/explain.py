@@ -13,7 +13,9 @@ from ..files.program import Program
 from ..files.store import load
 from ..launcher import run_program
 from ..launcher.commands import KINDS, MAGIC
-from ..launcher.tool_parser import Asked, Fault, Settings, option, tool
+from ..launcher.faults import Fault
+from ..launcher.settings import Settings
+from ..launcher.tool_parser import Asked, option, tool
 from ..launcher.words import wrong_number
 from . import answers
 from .answer import Answer
@@ -95,7 +97,7 @@ def found_in(path: str, beside: dict, width: int, settings: Settings) -> list[An
 
 
 @tool("FILE", option("beside", "BESIDE", nargs="*", default=[]))
-def main(asked: Asked, settings: Settings) -> int:
+def main(asked: Asked) -> int:
     width, beside = 0, {}
     if asked.beside and asked.beside[-1].isdigit():
         if wrong := wrong_number("width", asked.beside[-1]):
@@ -104,6 +106,6 @@ def main(asked: Asked, settings: Settings) -> int:
     for path in asked.beside:
         kind, data = kind_of(path)
         beside[kind] = (path, data)
-    found = found_in(asked.file, beside, width, settings)
+    found = found_in(asked.file, beside, width, asked.settings)
     print("\n".join(line for answer in found for line in answer.lines()) if found else f"{asked.file}: no fault")
     return FOUND if found else 0

@@ -21,9 +21,12 @@ import sys
 from ..files.program import Program
 from ..files.store import load
 from ..launcher import run_program
+from ..launcher.faults import Fault
 from ..launcher.overwrite import check, write
-from ..launcher.tool_parser import Asked, Fault, Settings, flag, option, tool
-from ..launcher.words import widths_of, wrong_number
+from ..launcher.settings import Settings
+from ..launcher.tool_parser import Asked, flag, option, tool
+from ..launcher.widths import widths_of
+from ..launcher.words import wrong_number
 from ..optimise.search import fewest
 from ..rules import answers
 from .simplifier import SECONDS, WRONG, Options, Simplifier, new_text
@@ -73,18 +76,18 @@ def fault_of(path: str, data: bytes, settings: Settings) -> int:
              type=float, default=SECONDS),
       flag("--rows", "take no text of more scratch rows"),
       flag("--unvalidated", "take texts that are not known to be equal, with a comment"))
-def main(asked: Asked, settings: Settings) -> int:
-    check_words(asked, settings)
+def main(asked: Asked) -> int:
+    check_words(asked, asked.settings)
     widths = asked.widths or (asked.width[0] if asked.width else WIDTHS)
     options = Options(tuple(widths_of(widths)), asked.seconds, asked.rows, asked.unvalidated)
-    simplifier = Simplifier(run_program.program(settings), options)
+    simplifier = Simplifier(run_program.program(asked.settings), options)
     data = load(asked.ops, "ops")
-    if status := fault_of(asked.ops, data, settings):
+    if status := fault_of(asked.ops, data, asked.settings):
         return status
     outcomes = simplifier.outcomes(data, "simplify")
     text = new_text(data, outcomes)
     if asked.new:
-        write(asked.new, text, "ops", settings)
+        write(asked.new, text, "ops", asked.settings)
     else:
         sys.stdout.write(text.decode("utf-8", "replace"))
     for one in outcomes:
@@ -93,5 +96,5 @@ def main(asked: Asked, settings: Settings) -> int:
         if one.kind == WRONG:
             print(f"as it was:\n{before.decode('utf-8', 'replace')}\nas it was simplified:\n{one.simpler.text}", end="", file=sys.stderr)
     if asked.width:
-        write_program(simplifier.program, asked, data, text, settings)
+        write_program(simplifier.program, asked, data, text, asked.settings)
     return FAULTY if any(one.kind == WRONG for one in outcomes) else 0

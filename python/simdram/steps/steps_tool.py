@@ -36,8 +36,9 @@ from ..assembler.at_width import branch, choice, choices
 from ..assembler.text_lines import TextLines, text_lines
 from ..files.decode import CELLS
 from ..files.program import Entry, Program
+from ..launcher.faults import Fault
 from ..launcher.overwrite import write
-from ..launcher.tool_parser import Asked, Fault, Settings, option, tool
+from ..launcher.tool_parser import Asked, option, tool
 from .board import Board, changing, done_by
 from .cell_values import Names, Value
 from .cells_before import before
@@ -172,7 +173,7 @@ def of_widths(entry: Entry, n: int | None) -> str:
              "names them, or `zeros`; the others hold 0", dest="start"),
       option("--iteration", "K", "which iteration of each part shows bits in the tables", type=int, default=1),
       option("--html", "PAGE", "write a page in place of the tables"))
-def main(asked: Asked, settings: Settings) -> None:
+def main(asked: Asked) -> None:
     try:
         entry = Program.load(asked.prog).find(asked.op)
     except KeyError as fault:
@@ -181,7 +182,7 @@ def main(asked: Asked, settings: Settings) -> None:
         raise Fault("--width goes with --with, and is 1 to 128")
     if asked.iteration < 1:
         raise Fault("--iteration is 1 or more")
-    text = of_entries(asked.prog, [entry], asked.ops, settings)[entry.name]
+    text = of_entries(asked.prog, [entry], asked.ops, asked.settings)[entry.name]
     if asked.start is not None and not asked.numbers:
         raise Fault("--from goes with --with")
     start = None if asked.start is None else asked.start.replace(",", " ").split()
@@ -191,7 +192,7 @@ def main(asked: Asked, settings: Settings) -> None:
     view = View(shown, text, run, asked.iteration, text_lines(asked.prog, entry) if shown is entry else None)
     said = [one for one in (text.other if text else "", run.said if run else "", of_widths(entry, width)) if one]
     if asked.html:
-        write(asked.html, page(asked.op, view.shown, said, run is not None).encode(), "page", settings)
+        write(asked.html, page(asked.op, view.shown, said, run is not None).encode(), "page", asked.settings)
         return
     for one in said:
         print(one)

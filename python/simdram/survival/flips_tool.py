@@ -12,7 +12,8 @@ import typing
 
 from ..files.image import HEAD_MAX, Table
 from ..files.store import load
-from ..launcher.tool_parser import Asked, Fault, Settings, option, tool
+from ..launcher.faults import Fault
+from ..launcher.tool_parser import Asked, option, tool
 from ..rules.script_rules import loaded_script
 
 # the greatest text of flips that a guarded run reads
@@ -102,7 +103,7 @@ def seed_of(text: str) -> int:
       option("--seed", "S", "another seed, other flips; 0 unless it is given", type=seed_of, default=0),
       option("--script", "SCRIPT", "the script that will be guarded", required=True),
       option("image", "IMAGE", "the image that it will be executed on"))
-def main(asked: Asked, _settings: Settings) -> None:
+def main(asked: Asked) -> None:
     cells, rate = cells_of(asked.script, asked.image), rate_of(asked.rate)
     head = f"# each of {cells.chances:,} chances (data cells times instructions) at the rate {rate:g}, seed {asked.seed}\n"
     body = text_of(drawn(cells, rate, asked.seed))

@@ -17,8 +17,9 @@ from ..costs.table_formats import FORMATS, Rows
 from ..files.image import Image
 from ..files.store import folder_of, load
 from ..launcher import run_program
+from ..launcher.faults import Fault
 from ..launcher.parallel import in_parallel
-from ..launcher.tool_parser import Asked, Fault, Settings, option, tool
+from ..launcher.tool_parser import Asked, option, tool
 from .flips_tool import Cells, cells_of, drawn, rate_of, seed_of, text_of
 
 HEAD = ("rate", "runs", "right", "share", "low", "high", "flips_mean", "flips_least", "flips_most", "first_wrong_seed")
@@ -113,15 +114,15 @@ def picture_of(rows: Rows) -> Picture:
       option("--format", help="how the table is written", choices=sorted(FORMATS), default="text"),
       option("--csv", help="as --format csv", action="store_const", const="csv", dest="format"),
       option("--plot", "OUT", "draw the shares over the rates, into OUT.svg or OUT.png"))
-def main(asked: Asked, settings: Settings) -> None:
+def main(asked: Asked) -> None:
     rates = list(dict.fromkeys(map(rate_of, asked.rates.split(","))))
     if not 1 <= asked.runs <= RUNS_MOST:
         raise Fault(f"--runs is 1 to {RUNS_MOST:,}")
     if asked.plot:
-        check_out(asked.plot, settings)
+        check_out(asked.plot, asked.settings)
     cells = cells_of(asked.script, asked.image)
-    job = Job(asked.ops, asked.script, asked.image, cells, run_program.program(settings))
+    job = Job(asked.ops, asked.script, asked.image, cells, run_program.program(asked.settings))
     rows = survival(job, rates, asked.runs, asked.seed)
     if asked.plot:
-        write(picture_of(rows), asked.plot, settings)
+        write(picture_of(rows), asked.plot, asked.settings)
     print(FORMATS[asked.format]([list(HEAD), *rows]), end="")

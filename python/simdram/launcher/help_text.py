@@ -1,0 +1,32 @@
+"""What the command says of itself: the help on all commands, and its version."""
+
+import pathlib
+import string
+import subprocess
+
+from .commands import PROGRAM, TOOLS
+from .places import TOP
+
+VERSION = "0.1.0"
+
+
+def columns(commands) -> str:
+    """Each command's arguments, what it does, and an example."""
+    return "".join(f"  {command.usage()}\n      {command.says}\n      simdram {command.example}\n" for command in commands)
+
+
+def all_commands() -> str:
+    template = string.Template(pathlib.Path(__file__).with_name("help.txt").read_text(encoding="utf-8"))
+    return template.substitute(program=columns(PROGRAM), tools=columns(TOOLS))
+
+
+def version() -> str:
+    """The version, and the commit where git tells it."""
+    said = f"simdram {VERSION}"
+    if TOP is not None and (pathlib.Path(TOP) / ".git").exists():
+        try:
+            ended = subprocess.run(["git", "-C", str(TOP), "rev-parse", "--short", "HEAD"], capture_output=True, text=True, check=False)
+        except OSError:
+            return said
+        said += f" ({ended.stdout.strip()})" if ended.returncode == 0 else ""
+    return said
