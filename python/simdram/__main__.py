@@ -7,7 +7,7 @@ import sys
 
 from .launcher import streams
 from .launcher.commands import ALL, Command
-from .launcher.faults import WRONG, Fault, FileFault, NotWritten
+from .launcher.faults import WRONG, Fault, NotWritten
 from .launcher.help_text import all_commands, version
 from .launcher.say import say
 from .launcher.settings import Settings, taken

@@ -273,7 +273,7 @@ class Compiled(Folder):
 class Forms(unittest.TestCase):
     def test_as_text(self):
         n, i = Form.of("n"), Form.of("i")
-        self.assertEqual([str(one) for one in (n.minus(i).add(-1), i.plus(n, 2), Form(3), Form().minus(i).add(1))],
+        self.assertEqual([str(one) for one in (n - i - 1, i.plus(n, 2), Form(3), Form() - i + 1)],
                          ["n - i - 1", "2 * n + i", "3", "-i + 1"])
 
 

@@ -161,7 +161,7 @@ class Meaning:
         if subscript:
             form = read_form(Tokens(subscript.encode()), ["i", *(f"r{k}" for k in range(REGISTERS))])
             if form.times("i"):
-                self.i = index - form.add(0).put("i", Form()).number if self.i is None else self.i
+                self.i = index - form.put("i", Form()).number if self.i is None else self.i
                 form = form.put("i", Form(self.i))
             for k, held in enumerate(self.registers):
                 form = form.put(f"r{k}", Form(held))

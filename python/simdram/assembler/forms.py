@@ -1,8 +1,7 @@
 """Sums of n, loop variables and numbers, as subscripts and bounds have them."""
 
+import collections
 import typing
-
-from ..files.program import ADD, ADDI, SETI, SETN, SETT, SUBI, Instruction
 
 N = "n"
 
@@ -22,26 +21,23 @@ class Form(typing.NamedTuple):
         """How often a name is added."""
         return dict(self.terms).get(name, 0)
 
-    def plus(self, other: "Form", factor: int = 1) -> "Form":
-        """The sum with a multiple of another form."""
-        sums = dict(self.terms)
-        for name, times in other.terms:
-            sums[name] = sums.get(name, 0) + factor * times
-        kept = tuple(sorted((name, times) for name, times in sums.items() if times))
-        return Form(self.number + factor * other.number, kept)
+    def plus(self, other: "Form | int", factor: int = 1) -> "Form":
+        """The sum with a multiple of another form, or of a number."""
+        number, terms = other if isinstance(other, Form) else (other, ())
+        sums = collections.Counter(dict(self.terms))
+        for name, times in terms:
+            sums[name] += factor * times
+        return Form(self.number + factor * number, tuple(sorted((name, times) for name, times in sums.items() if times)))
 
-    def minus(self, other: "Form") -> "Form":
+    def __add__(self, other: "Form | int") -> "Form":
+        return self.plus(other)
+
+    def __sub__(self, other: "Form | int") -> "Form":
         return self.plus(other, -1)
-
-    def add(self, number: int) -> "Form":
-        """The sum with a number."""
-        return Form(self.number + number, self.terms)
 
     def put(self, name: str, value: "Form") -> "Form":
         """The form with a value in place of a name."""
-        times = self.times(name)
-        without = Form(self.number, tuple(term for term in self.terms if term[0] != name))
-        return without.plus(value, times)
+        return self.plus(value - Form.of(name), self.times(name))
 
     @property
     def variables(self) -> list[str]:
@@ -55,12 +51,3 @@ class Form(typing.NamedTuple):
             parts.append((self.number, str(abs(self.number))))
         text = f"{'-' if parts[0][0] < 0 else ''}{parts[0][1]}"
         return text + "".join(f" {'-' if times < 0 else '+'} {part}" for times, part in parts[1:])
-
-
-def changed(one: Instruction, held: typing.Callable[[int], Form]) -> Form:
-    """What an instruction leaves in its register, from what registers hold before it."""
-    if one.kind in (SETI, SETN, SETT):
-        return {SETI: Form(one.number), SETN: Form.of(N), SETT: Form.of(N).add(-1)}[one.kind]
-    if one.kind in (ADDI, SUBI):
-        return held(one.register).add(one.number if one.kind == ADDI else -one.number)
-    return held(one.other).plus(held(one.register)) if one.kind == ADD else held(one.other)

@@ -211,7 +211,7 @@ class Lowering:
         self.around.append(loop)
         forms = needs_of(loop.body, self.around).of(self.around)
         steps = {form: form.times(loop.variable) * (-loop.step if loop.is_down else loop.step) for form in forms}
-        starts = {form: form.put(loop.variable, loop.start).add(max(0, -steps[form])) for form in forms}
+        starts = {form: form.put(loop.variable, loop.start) + max(0, -steps[form]) for form in forms}
         for form in forms:
             self.hold(form, starts[form], loop.token)
         frame = Frame(loop, count, {self.held[form]: step for form, step in steps.items()}, end)
@@ -235,7 +235,7 @@ class Lowering:
         self.token = loop.token
         fewest = least(loop.count, self.around)
         below = max(0, -fewest)
-        self.load(count, loop.count.add(below))
+        self.load(count, loop.count + below)
         for _ in range(below):
             self.leave(count, end)
             self.emit(SUBI, count, number=1)

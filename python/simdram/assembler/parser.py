@@ -137,7 +137,7 @@ class Reader:
         if not self.tokens.is_at("==", "!="):
             raise Breach(self.tokens.here, "syntax", f"{said(self.tokens.here)} stands where `==` or `!=` is expected")
         is_equal = self.tokens.next().text == "=="
-        made = If(token, first.minus(read_form(self.tokens, self.loops)))
+        made = If(token, first - read_form(self.tokens, self.loops))
         one, at = self.block(), self.tokens.at
         self.tokens.skip_lines()
         other = self.block() if self.tokens.took("else") else None

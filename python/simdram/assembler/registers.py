@@ -27,7 +27,7 @@ class Needs(typing.NamedTuple):
         mine = [form for form in self.exact if innermost(form, around) == own]
         for form in self.near:
             if own and innermost(form, around) == own and all(form.terms != other.terms for other in mine):
-                mine.append(form.add(max(0, -least(form, around))))
+                mine.append(form + max(0, -least(form, around)))
         return mine
 
 
@@ -77,7 +77,7 @@ def least(form: Form, around: Around) -> int:
 def tested(one: If, around: Around) -> tuple[Form, int | None]:
     """What an `if` asks of a form that is never below zero, the one of the `if` or its opposite: whether it is zero, or, where
     such a form is compared with a number that it may be above and below, this number."""
-    both = (one.form, Form().minus(one.form))
+    both = (one.form, Form() - one.form)
     for form in both:
         if least(form, around) >= 0:
             return form, None

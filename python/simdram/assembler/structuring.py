@@ -3,16 +3,28 @@
 import typing
 
 from ..files.program import ADD, ADDI, BNEZ, DONE, INDEXED, MOV, REGISTERS, SETI, SETN, SETT, SUBI, Entry, Instruction
-from .forms import Form, changed
+from .forms import N, Form
 from .loops_and_ways import Jumps
 from .parser import goes_down
 from .reading import instruction_text
+from .walks import CHANGES
 
 VARIABLES = "ijk"
 
 
 class Unstructured(Exception):
     """The code is no such loops."""
+
+
+class Held(dict[int, Form]):
+    """What registers hold, as far as that is known."""
+
+    def __missing__(self, register: int) -> Form:
+        raise Unstructured
+
+    def forget(self, registers: typing.Iterable[int]) -> None:
+        for register in registers:
+            self.pop(register, None)
 
 
 class Loop(typing.NamedTuple):
@@ -29,7 +41,7 @@ class Structuring:
 
     def __init__(self, entry: Entry) -> None:
         self.entry, self.code = entry, entry.code
-        self.held: dict[int, Form | None] = dict.fromkeys(range(REGISTERS), Form())
+        self.held = Held(dict.fromkeys(range(REGISTERS), Form()))
         self.spans = dict(Jumps(self.code).spans())
         self.lines: list[str] = []
         self.depth = 0
@@ -63,11 +75,6 @@ class Structuring:
             raise Unstructured
         return inside, jump.number
 
-    def form(self, register: int) -> Form:
-        if (form := self.held[register]) is None:
-            raise Unstructured
-        return form
-
     def step(self, one: Instruction) -> None:
         """An instruction that is no jump."""
         if one.rows:
@@ -75,10 +82,10 @@ class Structuring:
         elif one.kind == DONE:
             raise Unstructured
         else:
-            self.held[one.register] = changed(one, self.form)
+            self.held[one.register] = CHANGES[one.kind](self.held, one, Form.of(N))
 
     def subscript(self, register: int) -> str:
-        return "0" if register == REGISTERS else str(self.form(register))
+        return "0" if register == REGISTERS else str(self.held[register])
 
     def found(self, first: int, last: int) -> Loop:
         """The loop between two places."""
@@ -101,22 +108,22 @@ class Structuring:
         counter = self.code[loop.last].register
         if loop.steps.get(counter) != -1 or self.depth == len(VARIABLES):
             raise Unstructured
-        count, variable = self.form(counter), Form.of(VARIABLES[self.depth])
+        count, variable = self.held[counter], Form.of(VARIABLES[self.depth])
         start, is_down = self.start(loop, counter)
-        end = start.minus(count).add(1) if is_down else start.plus(count)
+        end = start - count + 1 if is_down else start + count
         if goes_down(start, end) != is_down:
             raise Unstructured
-        iteration = start.minus(variable) if is_down else variable.minus(start)
-        after = {register: self.form(register).plus(count, step) for register, step in loop.steps.items()}
-        self.held.update({register: self.form(register).plus(iteration, step) for register, step in loop.steps.items()})
-        self.held.update(dict.fromkeys(loop.set_there))
+        iteration = start - variable if is_down else variable - start
+        after = {register: self.held[register].plus(count, step) for register, step in loop.steps.items()}
+        self.held.update({register: self.held[register].plus(iteration, step) for register, step in loop.steps.items()})
+        self.held.forget(loop.set_there)
         self.put(f"for {variable} in {start}..{end} {{")
         self.depth += 1
         self.part(loop.first, loop.last)
         self.depth -= 1
         self.put("}")
         self.held.update(after)
-        self.held.update(dict.fromkeys(loop.set_there))
+        self.held.forget(loop.set_there)
 
     def start(self, loop: Loop, counter: int) -> tuple[Form, bool]:
         """What the loop variable begins with, and whether it goes down: as the first subscript that goes by one."""
@@ -125,7 +132,7 @@ class Structuring:
             for row in one.rows:
                 step = loop.steps.get(row.index) if row.space in INDEXED and row.index != counter else None
                 if step in (1, -1):
-                    return self.form(row.index).add(added[row.index]), step == -1
+                    return self.held[row.index] + added[row.index], step == -1
             if one.kind in (ADDI, SUBI) and one.register in added:
                 added[one.register] += one.number if one.kind == ADDI else -one.number
         return Form(), False

@@ -87,12 +87,12 @@ class For(Statement):
     @property
     def count(self) -> Form:
         """How many positions there are from the first value to the end: as many iterations, where it goes on by one."""
-        return self.start.minus(self.end).add(1) if self.is_down else self.end.minus(self.start)
+        return self.start - self.end + 1 if self.is_down else self.end - self.start
 
     @property
     def range(self) -> tuple[Form, Form]:
         """The least and the greatest value of the variable."""
-        return (self.end, self.start) if self.is_down else (self.start, self.end.add(-1))
+        return (self.end, self.start) if self.is_down else (self.start, self.end - 1)
 
 
 @dataclasses.dataclass

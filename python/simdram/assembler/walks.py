@@ -9,11 +9,11 @@ from ..files.program import ADD, ADDI, BNEZ, DONE, INDEXED, MOV, REGISTERS, SETI
 Place = tuple[int, int, int]
 TURNS = 1 << 22
 GREATEST = 1023
-# what an instruction leaves in its register, from what the registers hold, at a width
-CHANGES: dict[int, typing.Callable[[list[int], Instruction, int], int]] = {
+# what an instruction leaves in its register, from what the registers hold, at a width: all are numbers, or all are forms
+CHANGES: dict[int, typing.Callable[[typing.Any, Instruction, typing.Any], typing.Any]] = {
     ADDI: lambda held, one, n: held[one.register] + one.number, SUBI: lambda held, one, n: held[one.register] - one.number,
     ADD: lambda held, one, n: held[one.register] + held[one.other], MOV: lambda held, one, n: held[one.other],
-    SETI: lambda held, one, n: one.number, SETN: lambda held, one, n: n, SETT: lambda held, one, n: n - 1,
+    SETI: lambda held, one, n: type(n)() + one.number, SETN: lambda held, one, n: n, SETT: lambda held, one, n: n - 1,
 }
 
 
@@ -22,24 +22,28 @@ class Stuck(Exception):
 
 
 class Registers:
-    """The registers of the controller at a width."""
+    """The registers of the controller at a width, and what they hold: numbers, or forms."""
 
-    def __init__(self, width: int) -> None:
-        self.width = width
-        self.held = [0] * REGISTERS
+    def __init__(self, width: typing.Any, held: typing.Iterable[typing.Any] | None = None) -> None:
+        self.width, self.zero = width, type(width)()
+        self.held = [self.zero] * REGISTERS if held is None else list(held)
+
+    def index(self, row: Row) -> typing.Any:
+        """The value of a row's index."""
+        return self.held[row.index] if row.space in INDEXED and row.index < REGISTERS else self.zero
 
     def place(self, row: Row) -> Place:
-        """A row with the value of its index."""
-        return row.space, row.which, self.held[row.index] if row.space in INDEXED and row.index < REGISTERS else 0
+        return row.space, row.which, self.index(row)
+
+    def do(self, one: Instruction) -> None:
+        """Executes an instruction that sets a register; others change nothing here."""
+        if one.kind in CHANGES:
+            self.held[one.register] = CHANGES[one.kind](self.held, one, self.width)
 
     def next(self, at: int, one: Instruction) -> int:
         """Executes what is no row command, and returns where the code goes on."""
-        held, register, kind = self.held, one.register, one.kind
-        if kind == BNEZ:
-            return one.number if held[register] else at + 1
-        if kind in CHANGES:
-            held[register] = CHANGES[kind](held, one, self.width)
-        return at + 1
+        self.do(one)
+        return one.number if one.kind == BNEZ and self.held[one.register] else at + 1
 
 
 def walk(entry: Entry, n: int) -> list[tuple[Place, ...]]:

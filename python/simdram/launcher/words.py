@@ -2,7 +2,8 @@
 
 import argparse
 import difflib
-import functools
+import itertools
+import math
 import re
 import typing
 
@@ -53,35 +54,6 @@ def wrong_number(kind: str, text: str) -> str | None:
     return None if least <= int(text) <= greatest else f"{says}, {least} to {greatest}; it cannot be {text}"
 
 
-class WrongWords(Exception):
-    """What is wrong with a command line, as one line."""
-
-
-class WordsParser(Parser):
-    """A parser of a command's words, each of which is given to it with a mark before it: so none looks like an option."""
-
-    MARK = "="
-
-    def error(self, message: str) -> typing.NoReturn:
-        raise WrongWords(message)
-
-    def taken(self, words: list[str], flags: typing.Collection[str] = ()) -> None:
-        """Raises what is wrong with the words; flags may stand anywhere among them."""
-        flags_first = sorted(words, key=lambda text: text not in flags)
-        _, more = self.parse_known_args([text if text in flags else f"{self.MARK}{text}" for text in flags_first])
-        if more:
-            raise WrongWords(f"{more[0][len(self.MARK):]} is one argument too many")
-
-
-def checked(kind: str, marked: str) -> str:
-    """A word as the parser takes it, without its mark."""
-    text = marked[len(WordsParser.MARK):]
-    wrong = wrong_number(kind, text) if kind in NUMBERS else None
-    if wrong:
-        raise argparse.ArgumentTypeError(wrong)
-    return text
-
-
 def help_on(word: Word) -> str:
     """What an argument is; of a file, what it holds and which page has its form."""
     if word.kind in NUMBERS:
@@ -90,27 +62,36 @@ def help_on(word: Word) -> str:
     return f"{called.partition(' ')[2]}{', written' if word.is_written else ''}: {holds}"
 
 
-def parser_of(command: Command) -> WordsParser:
-    made = WordsParser(prog=f"simdram {command.name}", description=command.says, add_help=False, formatter_class=argparse.RawTextHelpFormatter,
-                       epilog=f"  simdram {command.example}\n\ndocs/FORMATS.md, How a command ends, has its statuses.")
+def parser_of(command: Command) -> Parser:
+    """The parser that has the help on a command."""
+    made = Parser(prog=f"simdram {command.name}", description=command.says, add_help=False, formatter_class=argparse.RawTextHelpFormatter,
+                  epilog=f"  simdram {command.example}\n\ndocs/FORMATS.md, How a command ends, has its statuses.")
     for word in command.words:
-        made.add_argument(word.name, type=functools.partial(checked, word.kind), help=help_on(word), nargs="?" if word.is_optional else None)
+        made.add_argument(word.name, help=help_on(word), nargs="?" if word.is_optional else None)
     for flag, says in command.flags:
         made.add_argument(flag, action="store_true", help=says)
     return made
 
 
-def wrong_together(command: Command, words: list[str]) -> str | None:
+def wrong_alone(command: Command, given: list[str]) -> str | None:
+    """What is wrong with one of a command's arguments, or with how many there are."""
+    for word, text in zip(command.words, given):
+        if word.kind in NUMBERS and (wrong := wrong_number(word.kind, text)):
+            return f"argument {word.name}: {wrong}"
+    if missing := [word.name for word in command.words[len(given):] if not word.is_optional]:
+        return f"the following arguments are required: {', '.join(missing)}"
+    spare = given[len(command.words):]
+    return f"{spare[0]} is one argument too many" if spare else None
+
+
+def wrong_together(command: Command, given: list[str]) -> str | None:
     """What is wrong with arguments of which each by itself is right."""
-    if command.name == "init" and int(words[0]) * int(words[1]) * int(words[2]) > WORDS_MAX:
-        return f"{words[0]} banks of {words[1]} rows of {words[2]} words are more than the {WORDS_MAX} words that a chip may have"
+    if command.name == "init" and math.prod(map(int, given[:3])) > WORDS_MAX:
+        return f"{given[0]} banks of {given[1]} rows of {given[2]} words are more than the {WORDS_MAX} words that a chip may have"
     # of files only IMAGE and OUT may be the same
-    files = [(word, text) for word, text in zip(command.words, words) if word.is_file]
-    for k, (word, text) in enumerate(files):
-        for other, same in files[k + 1:]:
-            if text == same and (word.name, other.name) != ("IMAGE", "OUT"):
-                return f"{word.name} and {other.name} are the same file, {text}"
-    return None
+    files = [(word, text) for word, text in zip(command.words, given) if word.is_file]
+    return next((f"{word.name} and {other.name} are the same file, {text}" for (word, text), (other, same) in itertools.combinations(files, 2)
+                 if text == same and (word.name, other.name) != ("IMAGE", "OUT")), None)
 
 
 def wrong_words(words: list[str]) -> str | None:
@@ -123,8 +104,5 @@ def wrong_words(words: list[str]) -> str | None:
     if command is None or not command.is_program:
         near = nearest(words[0], [*ALL, "help"])
         return f"there is no command {words[0] or repr('')}" + (f"; did you mean {' or '.join(near)}?" if near else "")
-    try:
-        parser_of(command).taken(words[1:], dict(command.flags))
-    except WrongWords as wrong:
-        return str(wrong)
-    return wrong_together(command, [word for word in words[1:] if word not in dict(command.flags)])
+    given = [word for word in words[1:] if word not in dict(command.flags)]
+    return wrong_alone(command, given) or wrong_together(command, given)

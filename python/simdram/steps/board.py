@@ -7,7 +7,7 @@ from ..files.decode import CELLS, RAISED
 from ..files.program import AAP, B_ADDRESS, C_ADDRESS, Instruction, Row
 from .cell_values import ALL, ONE, UNKNOWN, ZERO, Names, Value, complemented, majority, now_value, old_value, row_value
 from .code_parts import WIDEST, Part
-from .positions import Held, Positions, may_be_equal, of_rows
+from .positions import Held, may_be_equal, of_rows, registers
 from .row_names import RowNames
 
 LETTER = "i"
@@ -30,7 +30,7 @@ class Board:
     constants: tuple[typing.Any, typing.Any] = (ZERO, ONE)
 
     def __init__(self, part: Part, rows: RowNames, names: Names, taken: dict[str, Value] | None = None, changing=()) -> None:
-        self.positions, self.letter = Positions(part.held), letter(part.code, part.held)
+        self.registers, self.letter = registers(part.held), letter(part.code, part.held)
         self.cells = {**dict.fromkeys(CELLS, UNKNOWN), **(taken or {})}
         self.fresh, self.taken = set(CELLS), set()
         self.rows: dict[str, Value] = {}
@@ -46,11 +46,11 @@ class Board:
 
     def position(self, form: Form) -> str:
         if self.letter and form.times(self.letter[0]):
-            form = form.put(self.letter[0], Form.of(LETTER).add(-self.letter[1]))
+            form = form.put(self.letter[0], Form.of(LETTER) - self.letter[1])
         return str(form).replace(" ", "")
 
     def name(self, row: Row) -> str:
-        form = self.positions.of(row)
+        form = self.registers.index(row)
         name = self.row_names.text(row, lambda _: self.position(form))
         self.places[name] = (row.space, row.which, form)
         return name
@@ -116,7 +116,7 @@ class Board:
 
     def do(self, one: Instruction) -> bool:
         """Does an instruction; whether it was a row command."""
-        self.positions.do(one)
+        self.registers.do(one)
         if not one.rows:
             return False
         value = self.sensed(one.rows[0])

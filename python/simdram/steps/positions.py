@@ -3,52 +3,42 @@ registers held where a part of the code begins."""
 
 import typing
 
-from ..assembler.forms import N, Form, changed
-from ..files.program import ADD, ADDI, BNEZ, DONE, INDEXED, MOV, REGISTERS, SETI, SETN, SETT, SUBI, Instruction, Row
+from ..assembler.forms import N, Form
+from ..assembler.walks import Registers
+from ..files.program import BNEZ, DONE, INDEXED, REGISTERS, Instruction
 
 # of each register what it holds where a part begins: `r3` is what register 3 holds there
 Held = tuple[Form, ...]
 # where the code begins, all are 0
 START: Held = (Form(),) * REGISTERS
 UNKNOWN: Held = tuple(Form.of(f"r{register}") for register in range(REGISTERS))
-SETS = (SETI, SETN, SETT, MOV, ADD, ADDI, SUBI)
 
 
-class Positions:
-    """What the registers hold while a part is executed."""
-
-    def __init__(self, held: Held) -> None:
-        self.held = list(held)
-
-    def do(self, one: Instruction) -> None:
-        """Executes an instruction that sets a register; others change nothing here."""
-        if one.kind in SETS:
-            self.held[one.register] = changed(one, self.held.__getitem__)
-
-    def of(self, row: Row) -> Form:
-        return self.held[row.index] if row.space in INDEXED and row.index < REGISTERS else Form()
+def registers(held: Held) -> Registers:
+    """The registers where a part of the code begins."""
+    return Registers(Form.of(N), held)
 
 
 def after(code: typing.Iterable[Instruction], held: Held) -> Held:
     """What the registers hold after instructions."""
-    positions = Positions(held)
+    there = registers(held)
     for one in code:
-        positions.do(one)
-    return tuple(positions.held)
+        there.do(one)
+    return tuple(there.held)
 
 
 def of_rows(code: typing.Iterable[Instruction], held: Held) -> list[Form]:
     """The position of each indexed row of instructions, in their order."""
-    positions, found = Positions(held), []
+    there, found = registers(held), []
     for one in code:
-        found += [positions.of(row) for row in one.rows if row.space in INDEXED]
-        positions.do(one)
+        found += [there.index(row) for row in one.rows if row.space in INDEXED]
+        there.do(one)
     return found
 
 
 def may_be_equal(one: Form, other: Form) -> bool:
     """Whether two positions may be one, as n is 1 at least."""
-    apart = one.minus(other)
+    apart = one - other
     if not apart.variables:
         times = apart.times(N)
         return apart.number == 0 if times == 0 else apart.number % times == 0 and -apart.number // times > 0
@@ -62,7 +52,7 @@ def joined(found: typing.Iterable[tuple[typing.Hashable, Form]]) -> Held:
     made = []
     for register, (key, form) in enumerate(found):
         base, number = first.setdefault(key, (register, form.number)) if key else (register, form.number)
-        made.append(Form.of(f"r{base}").add(form.number - number) if key else form)
+        made.append(Form.of(f"r{base}") + (form.number - number) if key else form)
     return tuple(made)
 
 
@@ -77,7 +67,7 @@ def counted_from(held: Held, registers: typing.Collection[int]) -> Held:
     for register in registers:
         base = held[register].variables[:1]
         if base and int(base[0][1:]) not in registers:
-            there = Form.of(f"r{register}").add(-held[register].number)
+            there = Form.of(f"r{register}") - held[register].number
             held = tuple(form.put(base[0], there) for form in held)
     return held
 

@@ -87,4 +87,4 @@ class Held:
         rows = (row for each in part.code for row in each.rows if row.space in INDEXED)
         if not one[1] or all(row.index == bases[0] for row, form in zip(rows, of_rows(part.code, part.held)) if form.variables):
             return [("i", f"{one[0]}, {what}")]
-        return [("i", f"{Form.of(one[0]).add(one[1])} as the part begins, {one[0]} is {what}")]
+        return [("i", f"{Form.of(one[0]) + one[1]} as the part begins, {one[0]} is {what}")]
