@@ -11,6 +11,7 @@ TEST, BETWEEN = 8, 2
 # how many instructions stand before the own ones of a program for one width, and how many after them
 BEFORE, AFTER = 3, 2
 NO_JUMPS = (SETI, AAP, AP, DONE)
+made = Instruction.of
 
 
 class Choice(typing.NamedTuple):
@@ -19,10 +20,6 @@ class Choice(typing.NamedTuple):
     width: int
     here: Entry
     elsewhere: Entry
-
-
-def made(kind: int, register: int, number: int = 0) -> Instruction:
-    return Instruction(kind, bytes([kind, register, *number.to_bytes(2, "little")]).ljust(8, b"\0"))
 
 
 def test(n: int, other: int) -> tuple[Instruction, ...]:

@@ -17,8 +17,9 @@ class Tokens:
         self.found, self.at = tokens(data, ITEM), 0
         if self.found[-1].kind == STRANGER:
             raise Breach(self.found[-1], "lex", no_token(self.found[-1]))
-        # the width for which alone the program is that is read, or none
+        # of the program that is read the width for which alone it is, or none, and the registers that it names
         self.width: int | None = None
+        self.registers: set[int] = set()
 
     @property
     def here(self) -> Token:
@@ -48,17 +49,17 @@ class Tokens:
             raise Breach(self.here, "syntax", f"{said(self.here)} stands where `{text}` is expected{after}")
         return self.next()
 
-    def of_kind(self, kind: str, what: str) -> Token:
-        """Takes a token of a kind, which has to come."""
-        if self.here.kind != kind:
+    def of_kind(self, what: str, *kinds: str) -> Token:
+        """Takes a token of one of these kinds, which has to come."""
+        if self.here.kind not in kinds:
             raise Breach(self.here, "syntax", f"{said(self.here)} stands where {what} is expected")
         return self.next()
 
     def name(self, what: str) -> Token:
-        return self.of_kind(NAME, what)
+        return self.of_kind(what, NAME)
 
     def number(self, what: str) -> Token:
-        return self.of_kind(NUMBER, what)
+        return self.of_kind(what, NUMBER)
 
     def at_line_end(self) -> bool:
         """Whether a statement ends here."""

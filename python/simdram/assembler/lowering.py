@@ -3,15 +3,13 @@
 import contextlib
 import typing
 
-from ..files.program import (AAP, ADD, ADDI, AP, BNEZ, CODE, DONE, LARGEST, MOV, OPERANDS, REGISTERS, SETI, SETN, SETT, SUBI, Entry,
-                             Instruction, Row)
+from ..files.program import ADD, ADDI, BNEZ, CODE, DONE, LARGEST, MOV, REGISTERS, SETI, SETN, SETT, SUBI, Entry, Instruction, Row
 from ..rules.answer import Breach
 from ..rules.tokens import NUMBER, Token
 from .forms import N, Form
-from .registers import Registers, least, named_registers, needs_of, tested
-from .tree import Command, For, Head, If, Jump, Label, Next, Numbered, Operand, Out, Plain, ProgramText
+from .registers import Registers, least, needs_of, tested
+from .tree import Command, For, Head, If, Jump, Label, Next, Numbered, Operand, Out, ProgramText
 
-SIZE = 8
 # the label where a program for one width is stuck at others
 WRONG_WIDTH = ".wrong_width"
 
@@ -44,7 +42,7 @@ class Lowering:
         self.program, self.is_lean = program, is_lean
         # subscripts that are no loop's and stand in registers until these are needed, or the code can be jumped to
         self.kept: dict[Form, int] = {}
-        self.registers = Registers(named_registers(program.body))
+        self.registers = Registers(program.registers)
         self.code: list[Out] = []
         self.labels: dict[str, int] = {}
         self.held: dict[Form, int] = {}
@@ -304,7 +302,7 @@ class Lowering:
 # of each kind of statement what writes its instructions
 WRITERS: dict[type, typing.Callable[[Lowering, typing.Any], None]] = {
     Command: Lowering.command, Jump: Lowering.jump, For: Lowering.loop, If: Lowering.choice, Next: Lowering.next, Numbered: Lowering.numbered,
-    Plain: lambda made, one: made.emit(one.kind, one.register, one.other, one.number), Label: lambda made, one: made.place(one.token.text),
+    Out: lambda made, one: made.code.append(one), Label: lambda made, one: made.place(one.token.text),
 }
 
 
@@ -323,15 +321,8 @@ def target(one: Out, labels: dict[str, int], size: int) -> int:
 
 
 def encoded(one: Out, labels: dict[str, int], size: int) -> Instruction:
-    """An instruction's eight bytes."""
-    raw = bytes([one.kind])
-    if one.kind in (AAP, AP):
-        raw += b"".join(bytes(row) for row in one.rows)
-    elif OPERANDS[one.kind]:
-        number = target(one, labels, size) if one.kind == BNEZ else one.number
-        raw += bytes([one.register])
-        raw += bytes([one.other]) if "s" in OPERANDS[one.kind] else number.to_bytes(2, "little")
-    return Instruction(one.kind, raw.ljust(SIZE, b"\0"))
+    number = target(one, labels, size) if one.kind == BNEZ else one.number
+    return Instruction.of(one.kind, one.register, number, one.other, one.rows)
 
 
 def entry_of(head: Head, made: Lowering) -> Entry:

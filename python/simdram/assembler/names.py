@@ -9,6 +9,7 @@ from ..files.fields import NAME_BYTES
 from ..files.program import BIT, REGISTERS, RESULT, SOURCE, SPILL, SPILLS, WORD
 from ..rules.answer import Breach
 from ..rules.tokens import Token
+from .lexer import Tokens
 from .tree import Head
 
 REGISTER = re.compile("r([0-9]+)")
@@ -98,10 +99,12 @@ class Names:
         return ", ".join(f"{name} ({one.kind})" for name, one in self.known.items())
 
 
-def check_register(token: Token) -> int:
+def read_register(tokens: Tokens) -> int:
     """The number of a register, of which there are eight."""
+    token = tokens.name("a register")
     if (number := register_of(token.text)) is None:
         raise Breach(token, "register", f"`{token.text}` stands where a register is expected", "the registers are r0 to r7")
     if number >= REGISTERS:
         raise Breach(token, "register", f"there is no register {token.text}", "the registers are r0 to r7")
+    tokens.registers.add(number)
     return number

@@ -7,9 +7,9 @@ from ..rules.answer import Breach
 from ..rules.tokens import END, NAME, NUMBER, Token
 from .heads import read_entry, read_head
 from .lexer import Tokens, said
-from .names import Names, check_name, check_register, listed
+from .names import Names, check_name, listed, read_register
 from .rows import check_places, read_form, read_row
-from .tree import Command, For, If, Jump, Label, Next, Numbered, Plain, ProgramText, Text
+from .tree import Command, For, If, Jump, Label, Next, Numbered, Out, ProgramText, Text
 
 LONGEST_STEP = 128
 STATEMENTS = "an instruction, `for`, `if`, `next`, `JMP` or a label"
@@ -39,7 +39,7 @@ class Reader:
     """Reads one program."""
 
     def __init__(self, tokens: Tokens, earlier: set[str]) -> None:
-        self.tokens = tokens
+        self.tokens, tokens.registers = tokens, set()
         self.head = read_head(tokens, earlier)
         self.code = read_entry(tokens, self.head) if tokens.took("entry") else None
         self.names = Names(self.head)
@@ -51,7 +51,7 @@ class Reader:
         self.tokens.skip_lines()
         while self.tokens.here.kind != END and not self.tokens.is_at("program"):
             self.statement(body)
-        return ProgramText(self.head, body, self.code)
+        return ProgramText(self.head, body, self.tokens.registers, self.code)
 
     def block(self) -> list[typing.Any]:
         """The statements between braces."""
@@ -69,9 +69,7 @@ class Reader:
         """Reads a statement, with its number and its label where there are."""
         if self.tokens.here.kind == NUMBER:
             body.append(Numbered(self.tokens.next()))
-        token = self.tokens.next()
-        if token.kind != NAME:
-            raise Breach(token, "syntax", f"{said(token)} stands where {STATEMENTS} is expected")
+        token = self.tokens.name(STATEMENTS)
         if self.tokens.is_at(":"):
             check_name(token, "a label")
             if token.text in self.labels:
@@ -155,22 +153,19 @@ class Reader:
             check_places(tuple(rows))
             return Command(token, kind, tuple(rows))
         if kind == BNEZ:
-            register = self.register()
+            register = read_register(self.tokens)
             self.tokens.took(",")
             return Jump(token, register, self.target())
-        made = Plain(token, kind)
+        made = Out(token, kind)
         for operand in OPERANDS[kind]:
             self.tokens.took(",")
             if operand == "r":
-                made.register = self.register()
+                made.register = read_register(self.tokens)
             elif operand == "s":
-                made.other = self.register()
+                made.other = read_register(self.tokens)
             else:
                 made.number = self.number()
         return made
-
-    def register(self) -> int:
-        return check_register(self.tokens.name("a register"))
 
     def number(self) -> int:
         token = self.tokens.number("a number")
@@ -180,10 +175,7 @@ class Reader:
 
     def target(self) -> Token:
         """Where a jump leads: a label, or the number of an instruction."""
-        token = self.tokens.next()
-        if token.kind not in (NAME, NUMBER):
-            raise Breach(token, "syntax", f"{said(token)} stands where a label or a number is expected")
-        return token
+        return self.tokens.of_kind("a label or a number", NAME, NUMBER)
 
 
 def goes_down(start, end) -> bool:

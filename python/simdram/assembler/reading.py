@@ -4,7 +4,7 @@ in the raw layer, the lines of a listing, each entry below its head."""
 import contextlib
 import typing
 
-from ..files.program import B_ADDRESS, BNEZ, C_ADDRESS, INDEXED, OPERANDS, REGISTERS, Entry, Instruction, Program, Row
+from ..files.program import B_ADDRESS, BNEZ, C_ADDRESS, INDEXED, REGISTERS, Entry, Program, Row
 from ..rules.answer import Breach
 from ..rules.op_tree import head_text
 from .at_width import choice, choices, one_width, own
@@ -18,7 +18,12 @@ RESULTS = "yz"
 Subscript = typing.Callable[[int], str]
 
 
-def row_text(row: Row, entry: Entry, subscript: Subscript) -> str:
+def register_text(register: int) -> str:
+    """What a register of an index means, where its name says it."""
+    return "0" if register == REGISTERS else f"r{register}"
+
+
+def row_text(row: Row, entry: Entry, subscript: Subscript = register_text) -> str:
     """A row by its name; `subscript` says what a register of an index means."""
     if row.space == B_ADDRESS:
         return address_text(row.which)
@@ -30,16 +35,6 @@ def row_text(row: Row, entry: Entry, subscript: Subscript) -> str:
     return name if is_bit else f"{name}[{subscript(row.index)}]"
 
 
-def instruction_text(one: Instruction, entry: Entry, labels: dict[int, str],
-                     subscript: Subscript = lambda register: "0" if register == REGISTERS else f"r{register}") -> str:
-    """An instruction with names."""
-    if one.rows:
-        return " ".join([one.name, *(row_text(row, entry, subscript) for row in one.rows)])
-    texts = {"r": f"r{one.register}", "s": f"r{one.other}", "k": str(one.number)}
-    texts["t"] = labels[one.number] if one.kind == BNEZ else ""
-    return " ".join([one.name, *(texts[letter] for letter in OPERANDS[one.kind])])
-
-
 def flat_lines(entry: Entry) -> list[str]:
     """The instructions one by one, with labels where jumps lead."""
     targets = sorted({one.number for one in entry.code if one.kind == BNEZ})
@@ -47,7 +42,7 @@ def flat_lines(entry: Entry) -> list[str]:
     lines = []
     for at, one in enumerate(entry.code):
         lines += [f"{labels[at]}:"] if at in labels else []
-        lines.append(f"  {instruction_text(one, entry, labels)}")
+        lines.append(f"  {one.text(lambda row: row_text(row, entry), labels.__getitem__)}")
     return lines
 
 

@@ -3,11 +3,11 @@ and those that the assembler gives out, which are the ones that the program does
 
 import typing
 
-from ..files.program import OPERANDS, REGISTERS
+from ..files.program import REGISTERS
 from ..rules.answer import Breach
 from ..rules.tokens import Token
 from .forms import N, Form
-from .tree import Command, For, If, Jump, Plain
+from .tree import Command, For, If
 
 LAST_WIDTH = 128
 # what is around a statement: loops, and each `if` that is there only where its form is not zero
@@ -89,27 +89,10 @@ def tested(one: If, around: Around) -> tuple[Form, int | None]:
                     "a number")
 
 
-def named_registers(statements: typing.Iterable[typing.Any]) -> set[int]:
-    found: set[int] = set()
-    for one in statements:
-        if isinstance(one, Command):
-            found |= {row.index for row in one.rows if isinstance(row.index, int)}
-        elif isinstance(one, Jump) and one.register is not None:
-            found.add(one.register)
-        elif isinstance(one, Plain):
-            found |= {one.register} if "r" in OPERANDS[one.kind] else set()
-            found |= {one.other} if "s" in OPERANDS[one.kind] else set()
-        elif isinstance(one, For):
-            found |= named_registers(one.body)
-        elif isinstance(one, If):
-            found |= named_registers([*one.zero, *one.other])
-    return found
-
-
 class Registers:
     """Which registers are free, and what the others hold."""
 
-    def __init__(self, named: set[int]) -> None:
+    def __init__(self, named: typing.Iterable[int]) -> None:
         self.holds = {register: "the program names it" for register in named}
 
     def take(self, token: Token, what: str) -> int:

@@ -8,7 +8,7 @@ from ..rules.answer import Breach
 from ..rules.tokens import NAME, NUMBER, Token
 from .forms import N, Form
 from .lexer import Tokens, said
-from .names import BY_CELLS, PAIRS, SINGLES, TRIPLES, Names, address_text, check_register, register_of
+from .names import BY_CELLS, PAIRS, SINGLES, TRIPLES, Names, address_text, read_register, register_of
 from .tree import Operand
 
 ADDRESS = re.compile("([BC])([0-9]+)")
@@ -86,7 +86,7 @@ def read_operand(tokens: Tokens, names: Names, loops: list[str]) -> Operand:
 def read_index(tokens: Tokens, loops: list[str]) -> int | Form:
     """A subscript: a register, or a form."""
     if tokens.here.kind == NAME and register_of(tokens.here.text) is not None:
-        return check_register(tokens.next())
+        return read_register(tokens)
     place = tokens.here
     form = read_form(tokens, loops)
     if not form.terms and form.number < 0:

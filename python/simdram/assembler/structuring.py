@@ -6,7 +6,7 @@ from ..files.program import ADD, ADDI, BNEZ, DONE, INDEXED, MOV, REGISTERS, SETI
 from .forms import N, Form
 from .loops_and_ways import Jumps
 from .parser import goes_down
-from .reading import instruction_text
+from .reading import row_text
 from .walks import CHANGES
 
 VARIABLES = "ijk"
@@ -78,7 +78,7 @@ class Structuring:
     def step(self, one: Instruction) -> None:
         """An instruction that is no jump."""
         if one.rows:
-            self.put(instruction_text(one, self.entry, {}, self.subscript))
+            self.put(one.text(lambda row: row_text(row, self.entry, self.subscript), str))
         elif one.kind == DONE:
             raise Unstructured
         else:

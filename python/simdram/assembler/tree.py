@@ -48,13 +48,14 @@ class Command(Statement):
 
 
 @dataclasses.dataclass
-class Plain(Statement):
-    """An instruction on registers: its kind, its registers, and its number."""
+class Out(Statement):
+    """An instruction, whose jump leads to a label yet: its kind, its registers, its number or target, and its rows."""
 
     kind: int
     register: int = 0
     other: int = 0
-    number: int = 0
+    number: int | str = 0
+    rows: tuple[Row, ...] = ()
 
 
 @dataclasses.dataclass
@@ -110,10 +111,12 @@ class Next(Statement):
 
 @dataclasses.dataclass
 class ProgramText:
-    """A program of a text: its head, its statements, and the number of instructions that its line `entry` says."""
+    """A program of a text: its head, its statements, the registers that it names, and the number of instructions that its line
+    `entry` says."""
 
     head: Head
     body: list[typing.Any]
+    registers: set[int]
     code: Token | None = None
 
 
@@ -123,15 +126,3 @@ class Text:
 
     programs: list[ProgramText]
     version: int = 2
-
-
-@dataclasses.dataclass
-class Out:
-    """An instruction whose jump leads to a label yet: its token, kind, registers, number or target, and rows."""
-
-    token: Token
-    kind: int
-    register: int = 0
-    other: int = 0
-    number: int | str = 0
-    rows: tuple[Row, ...] = ()

@@ -52,6 +52,13 @@ class Instruction:
     kind: int
     raw: bytes
 
+    @classmethod
+    def of(cls, kind: int, register: int = 0, number: int = 0, other: int = 0, rows: typing.Sequence[Row] = ()) -> "Instruction":
+        """An instruction of these operands."""
+        second = bytes([other]) if "s" in OPERANDS[kind] else number.to_bytes(2, "little")
+        operands = b"".join(map(bytes, rows)) if rows else bytes([register]) + second
+        return cls(kind, (bytes([kind]) + operands).ljust(8, b"\0"))
+
     @property
     def name(self) -> str:
         return NAMES[self.kind]
@@ -76,11 +83,14 @@ class Instruction:
         """The number, or the target, of bytes 2 and 3."""
         return self.raw[2] | self.raw[3] << 8
 
+    def text(self, row_text: typing.Callable[[Row], str], target_text: typing.Callable[[int], str]) -> str:
+        """Its text, with names for its rows and for where it jumps."""
+        texts = {"r": f"r{self.register}", "s": f"r{self.other}", "k": str(self.number), **dict(zip("xy", map(row_text, self.rows)))}
+        return " ".join([self.name, *(target_text(self.number) if one == "t" else texts[one] for one in OPERANDS[self.kind])])
+
     def __str__(self) -> str:
         """Its text in a listing."""
-        texts = {"r": f"r{self.register}", "s": f"r{self.other}", "k": str(self.number), "t": str(self.number)}
-        texts.update(zip("xy", map(str, self.rows)))
-        return " ".join([self.name, *(texts[one] for one in OPERANDS[self.kind])])
+        return self.text(str, str)
 
 
 @dataclasses.dataclass(frozen=True)
