@@ -1,6 +1,8 @@
 """The head of a program: `program NAME(a: word, ..) -> y: word`, its scratch, its one width, and the line `entry` of a
 listing."""
 
+import typing
+
 from ..files.program import BIT, RESULT, SOURCE, SOURCES, WORD
 from ..rules.answer import Breach
 from ..rules.tokens import Token
@@ -19,7 +21,8 @@ def read_head(tokens: Tokens, earlier: set[str]) -> Head:
     check_name(token, "a program")
     if token.text in earlier:
         raise Breach(token, "twice", f"there is a program {token.text} already", "each program of a text has its own name")
-    head, tokens.width = Head(token.text, token), None
+    head = Head(token.text, token)
+    tokens.width, tokens.registers = None, set()
     tokens.expect("(", " before the sources")
     read_operands(tokens, head, head.sources, SOURCE, SOURCES[1])
     tokens.expect(")", " after the sources")
@@ -48,43 +51,39 @@ def read_width(tokens: Tokens, head: Head) -> None:
 
 
 def read_operands(tokens: Tokens, head: Head, found: dict[str, str], space: int, most: int) -> None:
-    """Names with their kinds, with commas between them."""
-    while True:
-        token, kind = read_typed(tokens, head)
+    for token, kind in read_typed(tokens, head):
         if len(found) == most:
             what = "sources" if space == SOURCE else "results"
             raise Breach(token, "head", f"{token.text} is one of too many {what}", f"a program has 1 to {most}")
         check_listed(token, space, len(found))
         found[token.text] = kind
-        if not tokens.took(","):
-            return
 
 
 def read_scratch(tokens: Tokens, head: Head) -> None:
     """The names of scratch, after the word `scratch`."""
-    while True:
-        token, kind = read_typed(tokens, head)
+    for token, kind in read_typed(tokens, head):
         names = head.bits if kind == "bit" else head.words
         if len(names) == SCRATCH_MAX:
             raise Breach(token, "head", f"{token.text} is the 256th {kind} of scratch", "a program has at most 255 of each")
         check_listed(token, BIT if kind == "bit" else WORD, len(names))
         names.append(token.text)
-        if not tokens.took(","):
-            break
     end_line(tokens, "`scratch`")
 
 
-def read_typed(tokens: Tokens, head: Head) -> tuple[Token, str]:
-    """A name that is new here, and its kind."""
-    token = tokens.name("a name")
-    check_name(token, "a row")
-    if token.text in (*head.sources, *head.results, *head.bits, *head.words):
-        raise Breach(token, "twice", f"`{token.text}` is named already", "each source, result and scratch has its own name")
-    tokens.expect(":", f" after {token.text}, as in `{token.text}: word`")
-    kind = tokens.name("`word` or `bit`")
-    if kind.text not in KINDS:
-        raise Breach(kind, "head", f"`{kind.text}` is no kind", "a kind is `word` or `bit`")
-    return token, kind.text
+def read_typed(tokens: Tokens, head: Head) -> typing.Iterator[tuple[Token, str]]:
+    """Names that are new here and their kinds, with commas between them."""
+    has_more = True
+    while has_more:
+        token = tokens.name("a name")
+        check_name(token, "a row")
+        if token.text in (*head.sources, *head.results, *head.bits, *head.words):
+            raise Breach(token, "twice", f"`{token.text}` is named already", "each source, result and scratch has its own name")
+        tokens.expect(":", f" after {token.text}, as in `{token.text}: word`")
+        kind = tokens.name("`word` or `bit`")
+        if kind.text not in KINDS:
+            raise Breach(kind, "head", f"`{kind.text}` is no kind", "a kind is `word` or `bit`")
+        yield token, kind.text
+        has_more = tokens.took(",")
 
 
 def check_listed(token: Token, space: int, which: int) -> None:

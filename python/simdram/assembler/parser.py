@@ -39,7 +39,7 @@ class Reader:
     """Reads one program."""
 
     def __init__(self, tokens: Tokens, earlier: set[str]) -> None:
-        self.tokens, tokens.registers = tokens, set()
+        self.tokens = tokens
         self.head = read_head(tokens, earlier)
         self.code = read_entry(tokens, self.head) if tokens.took("entry") else None
         self.names = Names(self.head)

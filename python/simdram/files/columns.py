@@ -5,8 +5,7 @@ first. All loops over elements are those of Python's integers and bytes, so that
 second.
 """
 
-import array
-import sys
+import struct
 import typing
 
 SIZES = (1, 2, 4, 8, 16)
@@ -42,27 +41,14 @@ def cells_of(rows: typing.Sequence[int], count: int, size: int) -> bytes:
     return bytes(cells)
 
 
-def _array(size: int, data: typing.Any) -> array.array:
-    made = array.array(CODES[size])
-    made.frombytes(data)
-    if sys.byteorder == "big":
-        made.byteswap()
-    return made
-
-
 def numbers_of(cells: bytes, size: int) -> list[int]:
-    if size < 16:
-        return _array(size, cells).tolist()
-    halves = _array(8, cells).tolist()
-    return [low | high << 64 for low, high in zip(halves[::2], halves[1::2])]
+    part = min(size, 8)
+    numbers = struct.unpack(f"<{len(cells) // part}{CODES[part]}", cells)
+    return list(numbers) if size == part else [low | high << 64 for low, high in zip(numbers[::2], numbers[1::2])]
 
 
 def cells_with(numbers: typing.Sequence[int], size: int) -> bytes:
     """Cells that hold these numbers, which fit in them."""
     if size == 16:
-        mask = 2**64 - 1
-        numbers = [half for number in numbers for half in (number & mask, number >> 64)]
-    made = array.array(CODES[min(size, 8)], numbers)
-    if sys.byteorder == "big":
-        made.byteswap()
-    return made.tobytes()
+        numbers = [half for number in numbers for half in (number % 2**64, number >> 64)]
+    return struct.pack(f"<{len(numbers)}{CODES[min(size, 8)]}", *numbers)

@@ -6,12 +6,10 @@ any shape, read with its last axis first; one of 64-bit numbers whose last axis 
 numbers, the lower half first.
 """
 
-import array
 import ast
 import math
 import re
 import struct
-import sys
 
 from ..launcher.faults import FileFault
 from . import columns
@@ -81,15 +79,11 @@ def of_array(data: bytes, path: str, width: int, count: int) -> list[int]:
     if not match or match[2] + match[3] not in CODES:
         raise FileFault(path, "", "array", f"its elements are {kind}; astype(np.uint64) makes whole numbers, and for widths "
                         "over 64 an array of two columns has the lower half and the upper half of each")
-    numbers = array.array(CODES[match[2] + match[3]])
-    size = numbers.itemsize * math.prod(shape)
-    if len(data) - start != size:
-        said = f"{len(data) - start} bytes follow its head, and shape {shape} of {kind} has {size}"
-        raise FileFault(path, "", "array", said)
-    numbers.frombytes(data[start:])
-    if {"<": "little", ">": "big"}.get(match[1], sys.byteorder) != sys.byteorder:
-        numbers.byteswap()
-    values = _by_rows(numbers.tolist(), shape) if in_columns else numbers.tolist()
+    form = f"{match[1].replace('|', '=')}{math.prod(shape)}{CODES[match[2] + match[3]]}"
+    if len(data) - start != (size := struct.calcsize(form)):
+        raise FileFault(path, "", "array", f"{len(data) - start} bytes follow its head, and shape {shape} of {kind} has {size}")
+    values = list(struct.unpack(form, data[start:]))
+    values = _by_rows(values, shape) if in_columns else values
     if width > 64 and shape[-1:] == (2,) and len(values) == 2 * count and match[2] == "u":
         return [low | high << 64 for low, high in zip(values[::2], values[1::2])]
     return values

@@ -103,39 +103,41 @@ def drop(copy: str) -> None:
         os.rmdir(folder)
 
 
-def say_kept(path: str, kind: str, name: str, settings: Settings) -> None:
-    if not settings.quiet:
-        say(f"{path} held another {WRITTEN[kind][0].partition(' ')[2]}, which is kept as {name}")
+class Kept(typing.NamedTuple):
+    """A file that may be written, its kind, and the copy of what it held before."""
+
+    path: str
+    kind: str
+    copy: str
+
+    def settle(self, settings: Settings) -> None:
+        """Removes the copy where the file was left as it was, and else tells of it."""
+        try:
+            is_same = os.path.isfile(self.path) and filecmp.cmp(self.path, self.copy, shallow=False)
+            if is_same:
+                drop(self.copy)
+        except (OSError, MemoryError):
+            is_same = False
+        if not is_same and not settings.quiet:
+            say(f"{self.path} held another {WRITTEN[self.kind][0].partition(' ')[2]}, which is kept as {self.copy}")
 
 
 def write(path: str, data: bytes, kind: str, settings: Settings) -> None:
     """Writes a tool's file by the rule above."""
-    place = place_of(path)
+    place, copies = place_of(path), []
     told_of(place, settings)
-    copy = ""
     if is_full(place) and not settings.force:
         if os.path.getsize(place) == len(data) and load(place) == data:
             return
         check(path, kind, settings)
         if kind == "ops":
             raise Fault(f"{path} holds a text, which may have been typed; nothing was written, and --force overwrites it")
-        copy = kept(place)
+        copies.append(Kept(place, kind, kept(place)))
     try:
         store(path, data, True)
-    except NotWritten:
-        if copy:
-            drop(copy)
-        raise
-    if copy:
-        say_kept(path, kind, copy, settings)
-
-
-class Kept(typing.NamedTuple):
-    """A file that a command may write, its kind, and the copy of what it held before."""
-
-    path: str
-    kind: str
-    copy: str
+    finally:
+        for one in copies:
+            one.settle(settings)
 
 
 class Written:
@@ -157,16 +159,8 @@ class Written:
                 self.copies.append(Kept(place, word.kind, kept(place)))
 
     def settle(self) -> None:
-        """Removes the copies of files that the command left as they were, and tells of the others."""
-        for path, kind, copy in self.copies:
-            try:
-                is_same = os.path.isfile(path) and filecmp.cmp(path, copy, shallow=False)
-                if is_same:
-                    drop(copy)
-            except (OSError, MemoryError):
-                is_same = False
-            if not is_same:
-                say_kept(path, kind, copy, self.settings)
+        for one in self.copies:
+            one.settle(self.settings)
 
 
 def why_not_written(path: str, size: int) -> str:
