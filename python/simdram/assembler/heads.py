@@ -5,8 +5,8 @@ import typing
 
 from ..files.program import BIT, RESULT, SOURCE, SOURCES, WORD
 from ..rules.answer import Breach
-from ..rules.tokens import Token
-from .lexer import Tokens, said
+from ..rules.tokens import Token, said
+from .lexer import Tokens
 from .names import KINDS, check_name, listed
 from .tree import Head
 

@@ -3,9 +3,8 @@
 import re
 
 from ..rules.answer import Breach
-from ..rules.tokens import END, NAME, NUMBER, STRANGER, SYMBOL, Token, no_token, tokens
+from ..rules.tokens import END, NAME, NEWLINE, NUMBER, STRANGER, SYMBOL, Token, no_token, said, tokens
 
-NEWLINE = "newline"
 ITEM = re.compile(rb"(?P<gap>[ \t\r]+|#[^\n]*)|(?P<newline>\n)|(?P<name>[A-Za-z_][A-Za-z0-9_]*)|(?P<number>[0-9]+)"
                   rb"|(?P<symbol>->|\.\.|==|!=|[(){}\[\],;:=+\-*~])|(?P<stranger>.)", re.DOTALL)
 
@@ -69,10 +68,3 @@ class Tokens:
         """Takes the ends of statements."""
         while self.here.kind == NEWLINE or self.is_at(";"):
             self.next()
-
-
-def said(token: Token) -> str:
-    """A token as a fault names it."""
-    if token.kind == END:
-        return "the end of the text"
-    return "the end of the line" if token.kind == NEWLINE else f"`{token.text}`"

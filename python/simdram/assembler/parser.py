@@ -4,9 +4,9 @@ import typing
 
 from ..files.program import AAP, AP, BNEZ, ENTRIES, LARGEST, NAMES as INSTRUCTIONS, OPERANDS
 from ..rules.answer import Breach
-from ..rules.tokens import END, NAME, NUMBER, Token
+from ..rules.tokens import END, NAME, NUMBER, Token, said
 from .heads import read_entry, read_head
-from .lexer import Tokens, said
+from .lexer import Tokens
 from .names import Names, check_name, listed, read_register
 from .rows import check_places, read_form, read_row
 from .tree import Command, For, If, Jump, Label, Next, Numbered, Out, ProgramText, Text

@@ -5,9 +5,9 @@ import re
 from ..files.decode import B_ADDRESSES, CELLS, RAISED
 from ..files.program import B_ADDRESS, C_ADDRESS, INDEXED, SOURCE
 from ..rules.answer import Breach
-from ..rules.tokens import NAME, NUMBER, Token
+from ..rules.tokens import NAME, NUMBER, Token, said
 from .forms import N, Form
-from .lexer import Tokens, said
+from .lexer import Tokens
 from .names import BY_CELLS, PAIRS, SINGLES, TRIPLES, Names, address_text, read_register, register_of
 from .tree import Operand
 

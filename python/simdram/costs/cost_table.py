@@ -37,11 +37,8 @@ Costs = dict[tuple[str, int], list[EntryCost]]
 
 def of_one(path: str, widths: list[int], found: Costs, banks: int, words: int) -> Rows:
     """The table of one program file."""
-    by_name: dict[str, Rows] = {}
-    for width in widths:
-        for cost in found[path, width]:
-            by_name.setdefault(cost.name, []).append(row_of(cost, width, banks, words))
-    return [[name.format(64 * words) for name in HEAD], *(row for rows in by_name.values() for row in rows)]
+    rows = (row_of(found[path, width][k], width, banks, words) for k in range(len(found[path, widths[0]])) for width in widths)
+    return [[name.format(64 * words) for name in HEAD], *rows]
 
 
 def labels_of(paths: list[str]) -> list[str]:

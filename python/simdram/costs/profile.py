@@ -13,7 +13,7 @@ from ..assembler.walks import executions
 from ..files.program import AAP, Entry, Program
 from ..files.store import folder_of, load
 from ..launcher import run_program
-from ..launcher.commands import MAGIC
+from ..launcher.commands import kind_of
 from ..launcher.faults import Fault
 from ..launcher.settings import Settings
 from ..launcher.tool_parser import Asked, flag, option, tool
@@ -116,7 +116,7 @@ def profiles(path: str, widths: list[int], settings: Settings, ops: str | None =
 def of_file(path: str, widths: list[int], settings: Settings, ops: str | None = None) -> list[Profile]:
     """The profiles of a program file, or of an operation text, which is compiled into a file that is removed after it."""
     data = load(path)
-    if data.startswith(MAGIC["program"]):
+    if kind_of(data) == "program":
         return profiles(path, widths, settings, ops)
     if ops:
         raise Fault(f"{path} is no program file: --ops goes with one")

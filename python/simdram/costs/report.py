@@ -14,7 +14,7 @@ import typing
 
 from ..files.image import HEAD_MAX, Table
 from ..files.store import load
-from ..launcher.commands import MAGIC
+from ..launcher.commands import kind_of
 from ..launcher.faults import Fault
 from ..launcher.overwrite import content
 from ..launcher.tool_parser import Asked, flag, option, tool
@@ -106,7 +106,7 @@ def text_of(report: str | None) -> str:
     if report is None:
         return load("/dev/stdin").decode("utf-8", "replace")
     data = load(report)
-    if data.startswith(tuple(MAGIC.values())):
+    if kind_of(data):
         raise Fault(f"{report}: no report: it holds {content(data[:512])}")
     return data.decode("utf-8", "replace")
 

@@ -6,7 +6,7 @@ program file can be written by hand with a comment for each instruction, such as
 
 import re
 
-from ..launcher.commands import MAGIC
+from ..launcher.commands import kind_of
 from ..launcher.faults import Fault
 from ..launcher.overwrite import write
 from ..launcher.tool_parser import Asked, tool
@@ -29,5 +29,4 @@ def bytes_in(note: str) -> bytes:
 @tool("NOTE", "FILE")
 def main(asked: Asked) -> None:
     data = bytes_in(asked.note)
-    kind = next((kind for kind, magic in MAGIC.items() if data.startswith(magic)), "bytes")
-    write(asked.file, data, kind, asked.settings)
+    write(asked.file, data, kind_of(data) or "bytes", asked.settings)

@@ -1,6 +1,7 @@
 """Where built programs stand, whether they are older than their sources, and the build without proofs."""
 
 import fcntl
+import itertools
 import os
 import pathlib
 import shutil
@@ -9,6 +10,7 @@ import sys
 import tempfile
 import threading
 import time
+import typing
 
 from . import fast_toolchain
 from .faults import NoProgram
@@ -33,28 +35,21 @@ def out_folder() -> pathlib.Path:
     return home() / "crates" / "simdram" / "out"
 
 
-def files_in(folder: str):
-    """The regular files below a folder."""
+def files_in(folder: pathlib.Path) -> typing.Iterator[str]:
+    """The files below a folder."""
     for place, _, names in os.walk(folder):
         for name in names:
             yield os.path.join(place, name)
-
-
-def is_newer(path: str, moment: int) -> bool:
-    """Whether a file changed after a moment."""
-    return not os.path.islink(path) and os.lstat(path).st_mtime_ns > moment
 
 
 def is_old(program: pathlib.Path, folders: tuple[str, ...]) -> bool:
     """Whether a program is missing, or a file in one of these folders of a crate is newer."""
     if not os.access(program, os.X_OK):
         return True
-    moment = program.stat().st_mtime_ns
-    if is_newer(str(home() / "crates.txt"), moment):
-        return True
-    crates = home() / "crates"
+    moment, crates = program.stat().st_mtime_ns, home() / "crates"
     sources = (crates / crate / folder for crate in sorted(os.listdir(crates)) for folder in folders)
-    return any(is_newer(path, moment) for folder in sources for path in files_in(str(folder)))
+    paths = itertools.chain([home() / "crates.txt"], *map(files_in, sources))
+    return any(not os.path.islink(path) and os.lstat(path).st_mtime_ns > moment for path in paths)
 
 
 def need_rt() -> None:
@@ -67,7 +62,7 @@ def need_rt() -> None:
 def copy_program(work: pathlib.Path) -> None:
     """Waits until the program opens the pipe, and copies the program then: rt keeps it only while it runs."""
     with open(work / "pipe", "wb"):
-        for path in files_in(str(work / "try")):
+        for path in files_in(work / "try"):
             if os.path.basename(path) == "program":
                 shutil.copy(path, work / "copy")
 

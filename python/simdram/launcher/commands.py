@@ -22,6 +22,11 @@ HOLDS = {
 KINDS = {kind: called for kind, (called, _) in HOLDS.items()}
 
 
+def kind_of(start: bytes) -> str:
+    """The kind of file that begins so, or nothing where no kind does."""
+    return next((kind for kind, magic in MAGIC.items() if start.startswith(magic)), "")
+
+
 @dataclasses.dataclass(frozen=True)
 class Word:
     """An argument of a command: its name in help, what it is, whether the command writes it, and whether it may be left out."""

@@ -15,7 +15,3 @@ SECONDS = {
 }
 # of a crate that the table does not have
 OTHER = 60
-
-
-def seconds_of(crate: str) -> int:
-    return SECONDS.get(crate, OTHER)

@@ -18,7 +18,7 @@ import tempfile
 import typing
 
 from ..files.store import LARGEST, LIMITS, keep, left_beside, load, new_file, place_of, start_of, store
-from .commands import ALL, KINDS, MAGIC, Command
+from .commands import ALL, KINDS, MAGIC, Command, kind_of
 from .faults import Fault, NotWritten
 from .say import say
 from .settings import Settings
@@ -46,9 +46,8 @@ TYPED = (".ops", ".bbop", ".query", ".flips", ".micro")
 
 def content(start: bytes) -> str:
     """What a file that begins so holds."""
-    for kind, magic in MAGIC.items():
-        if start.startswith(magic):
-            return KINDS[kind]
+    if kind := kind_of(start):
+        return KINDS[kind]
     is_text = b"\0" not in start and all(byte >= 32 or byte in b"\t\r\n\f" for byte in start)
     return "text" if is_text else "other bytes"
 

@@ -3,7 +3,6 @@
 import concurrent.futures
 import itertools
 import os
-import sys
 import time
 import typing
 
@@ -27,7 +26,6 @@ class Bar:
 
     def __init__(self, what: str, items: int) -> None:
         self.what, self.items, self.done = what, items, 0
-        self.is_shown = bool(what) and sys.stderr.isatty()
         self.began = time.monotonic()
 
     def line(self, seconds: float) -> str:
@@ -41,12 +39,12 @@ class Bar:
         """One more item is done."""
         self.done += 1
         seconds = time.monotonic() - self.began
-        if self.is_shown and seconds > SHOWN_AFTER:
+        if self.what and seconds > SHOWN_AFTER:
             show(self.line(seconds))
 
     def end(self) -> None:
         """The bar's line is empty again."""
-        if self.is_shown:
+        if self.what:
             show("")
 
 

@@ -10,7 +10,7 @@ import time
 
 from .build import PROVED, SOURCES, home, is_old, need_rt, out_folder
 from .faults import NoProgram
-from .minutes import SECONDS, seconds_of
+from .minutes import OTHER, SECONDS
 from .say import say, show
 from .tool_parser import Asked, tool
 
@@ -48,45 +48,39 @@ class Progress:
         self.at = 0
         self.spent = 0.0
         self.expected = 0.0
-        self.is_terminal = sys.stderr.isatty()
 
     def left(self) -> str:
         """About how long it still takes, from the table and from how fast it went so far."""
-        seconds = sum(seconds_of(name) for name in self.names[self.at:])
+        seconds = sum(SECONDS.get(name, OTHER) for name in self.names[self.at:])
         rate = self.spent / self.expected if self.expected else 1 / FIRST_RATE
         minutes = round(seconds * rate / 60)
         return f"about {minutes} minute{'s' * (minutes != 1)} left" if minutes else "less than a minute left"
 
     def begin(self, name: str) -> None:
         self.line = f"proving {name}, {self.at + 1} of {len(self.names)}, {self.left()}"
-        if not self.is_terminal:
+        if not sys.stderr.isatty():
             say(self.line)
         self.show("")
 
     def show(self, text: str) -> None:
         """A line of rt, in the place of the last one."""
-        if self.is_terminal:
-            show(f"simdram: {self.line}{': ' if text else ''}{text}")
+        show(f"simdram: {self.line}{': ' if text else ''}{text}")
 
     def heard(self, line: str) -> None:
         """A line that rt printed: a proved function is shown, and what rt waits for."""
         if "waiting for" in line:
-            self.end()
+            show("")
             say(line.partition("rt: ")[2] or line)
         elif line.startswith("so far:"):
             self.show(line.partition(";")[0])
         elif line.startswith("fn ") and line.endswith(": proved"):
             self.show(line.rpartition(": ")[0].partition("::")[2])
 
-    def end(self) -> None:
-        if self.is_terminal:
-            show("")
-
     def done(self, name: str, seconds: float) -> None:
         """A crate is proved; where it was not proved before, how fast is known."""
         if seconds >= KEPT_SECONDS:
             self.spent += seconds
-            self.expected += seconds_of(name)
+            self.expected += SECONDS.get(name, OTHER)
         self.at += 1
 
 
@@ -103,7 +97,7 @@ def rt_in(crate: str, verb: str, progress: Progress) -> None:
             running.terminate()
             running.wait()
             raise
-    progress.end()
+    show("")
     if running.returncode:
         sys.stderr.write("".join(lines))
         raise NoProgram(f"{crate} is not proved")
@@ -125,7 +119,7 @@ def prove() -> None:
         try:
             rt_in(name, "run" if name == "simdram" else "lib", progress)
         except KeyboardInterrupt:
-            progress.end()
+            show("")
             say(f"stopped while proving {name}; what is proved is kept, and the next `simdram prove` goes on from there")
             raise SystemExit(INTERRUPTED) from None
         progress.done(name, time.monotonic() - start)

@@ -16,8 +16,9 @@ def say(text: str) -> None:
 
 
 def show(text: str) -> None:
-    """A line on a terminal, in the place of the last one."""
-    print(f"\r{text[:shutil.get_terminal_size().columns - 1]}\033[K", end="", file=sys.stderr, flush=True)
+    """A line in the place of the last one, where standard error is a terminal."""
+    if sys.stderr.isatty():
+        print(f"\r{text[:shutil.get_terminal_size().columns - 1]}\033[K", end="", file=sys.stderr, flush=True)
 
 
 def session() -> str:

@@ -6,7 +6,7 @@ import typing
 
 from ..launcher.faults import Fault
 from ..launcher.words import nearest
-from .tokens import STRANGER, Token, line_of
+from .tokens import STRANGER, Token, line_of, said
 
 WIDEST = 100
 
@@ -59,6 +59,11 @@ class Breach(Exception):
         """The fault as one line."""
         answer = self.answer(path, data)
         return Fault(f"{path} {answer.place}: {answer.kind}: {answer.rule}")
+
+
+def not_allowed(token: Token, wanted: str, *right: str) -> Breach:
+    """The fault of a token that the grammar does not allow."""
+    return Breach(token, "syntax", f"the grammar does not allow {said(token)} here", f"allowed here: {wanted}", *right)
 
 
 def first_breach(path: str, data: bytes, read: typing.Callable[..., typing.Any], *more: typing.Any, refused: str = "") -> Answer | None:

@@ -8,7 +8,7 @@ from ..files.image import Image, Table
 from ..files.program import Entry, Program
 from ..files.trace import Trace
 from ..launcher import run_program
-from ..launcher.commands import KINDS, MAGIC
+from ..launcher.commands import KINDS, kind_of
 from ..launcher.faults import FileFault
 from ..launcher.overwrite import content
 from ..launcher.settings import Settings
@@ -54,7 +54,7 @@ def first_fault(kind: str, path: str, data: bytes) -> Answer | None:
             return Answer(path, fault.place, fault.word, fault.what, right_bytes(fault.word, data))
         return None
     found = first_breach(path, data, TEXTS[kind])
-    if found and data.startswith(tuple(MAGIC.values())):
+    if found and kind_of(data):
         return Answer(path, found.place, found.kind, f"{KINDS[kind]} is read here, and the file holds {content(data[:512])}")
     return found
 

@@ -12,7 +12,7 @@ from ..files.image import Table
 from ..files.program import Program
 from ..files.store import load
 from ..launcher import run_program
-from ..launcher.commands import KINDS, MAGIC
+from ..launcher.commands import KINDS, kind_of
 from ..launcher.faults import Fault
 from ..launcher.settings import Settings
 from ..launcher.tool_parser import Asked, option, tool
@@ -48,10 +48,10 @@ def by_first_word(data: bytes) -> str:
     return "query" if first.kind == NAME and first.text in (*COMPARISONS, *JOINS) else "ops"
 
 
-def kind_of(path: str) -> tuple[str, bytes]:
+def loaded(path: str) -> tuple[str, bytes]:
+    """The kind of a file, and its bytes."""
     data = load(path)
-    by_magic = next((kind for kind, magic in MAGIC.items() if data.startswith(magic)), None)
-    return by_magic or ENDINGS.get(os.path.splitext(path)[1]) or by_first_word(data), data
+    return kind_of(data) or ENDINGS.get(os.path.splitext(path)[1]) or by_first_word(data), data
 
 
 def check_beside(path: str, kind: str, beside: dict, width: int) -> None:
@@ -79,7 +79,7 @@ def of_ops(path: str, data: bytes, beside: dict, width: int, settings: Settings)
 
 def found_in(path: str, beside: dict, width: int, settings: Settings) -> list[Answer]:
     """What is wrong with a file, beside others; a width is 0 where none is named."""
-    kind, data = kind_of(path)
+    kind, data = loaded(path)
     check_beside(path, kind, beside, width)
     fault = answers.first_fault(kind, path, data) if kind != "flips" else None
     if fault:
@@ -104,7 +104,7 @@ def main(asked: Asked) -> int:
             raise Fault(f"N is {wrong}")
         width = int(asked.beside.pop())
     for path in asked.beside:
-        kind, data = kind_of(path)
+        kind, data = loaded(path)
         beside[kind] = (path, data)
     found = found_in(asked.file, beside, width, asked.settings)
     print("\n".join(line for answer in found for line in answer.lines()) if found else f"{asked.file}: no fault")

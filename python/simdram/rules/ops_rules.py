@@ -4,7 +4,7 @@ import typing
 
 from ..launcher.faults import Fault
 from . import word_ops
-from .answer import Breach, near
+from .answer import Breach, near, not_allowed
 from .op_tree import Expr, Op, OpShape, StatementShape, gate, read
 from .tokens import END, NAME, NAME_MAX, STRANGER, Token, is_long, no_token, tokens
 
@@ -58,15 +58,14 @@ class Reader:
 
     def unwanted(self, token: Token, wanted: str) -> Breach:
         """The fault of a token that the grammar does not allow."""
-        right = [f"allowed here: {wanted}"]
+        right = []
         if token.text == "[":
             right.append("widths are not in the text: an operation is for every width, and the instruction that calls it gives n")
         if token.kind == "number" and "argument" in wanted:
             right.append("arguments are names: a constant is `zero()` or `ones()`, or an object that a script fills")
         if token.text == "(" and self.at and self.tokens[self.at - 1].text in word_ops.TAKES_GIVES and "argument" in wanted:
             right.append(NO_NEST.format(self.tokens[self.at - 1].text))
-        shown = "the end of the text" if token.kind == END else f"`{token.text}`"
-        return Breach(token, "syntax", f"the grammar does not allow {shown} here", *right)
+        return not_allowed(token, wanted, *right)
 
     def good_name(self, token: Token, what: str, is_taken: typing.Callable[[str], bool] = lambda _: False) -> str:
         """A new name that is not reserved, not too long and not taken."""
@@ -171,9 +170,7 @@ class Reader:
 
     def operation(self, targets: list[str]) -> str:
         token = self.take("a word operation's name", name=True)
-        name = token.text
-        if name in RESERVED or is_long(name):
-            self.good_name(token, "the operation")
+        name = self.good_name(token, "the operation")
         if name not in word_ops.TAKES_GIVES:
             right = [f"the word operations: {listed(word_ops.TAKES_GIVES)}"]
             sign = OPERATORS.get(self.next().text)
@@ -207,9 +204,7 @@ class Reader:
 
     def argument(self, operation: str, given: list[str], token: Token) -> str:
         """The kind of an argument that stands."""
-        name = token.text
-        if name in RESERVED or is_long(name):
-            self.good_name(token, "the argument")
+        name = self.good_name(token, "the argument")
         if (kind := self.shape.defined.get(name)) is None:
             right = [f"defined names: {listed(self.shape.defined)}"]
             if self.next().text == "(" and name in word_ops.TAKES_GIVES:
@@ -288,8 +283,7 @@ class Reader:
         token = self.take(VALUE, "0", "1", name=True)
         if token.kind != NAME:
             return gate(token.text)
-        if token.text in RESERVED or is_long(token.text):
-            self.good_name(token, "the value")
+        self.good_name(token, "the value")
         if self.next().text == "(":
             return self.gate(token, depth)
         known = list(dict.fromkeys([*self.shape.defined, *self.shape.last_statement.starts, *self.shape.last_statement.lets]))

@@ -3,7 +3,7 @@
 import typing
 
 from ..launcher.words import nearest
-from .answer import Breach
+from .answer import Breach, not_allowed
 from .operands import FORM, Operand
 from .tokens import END, NAME, NUMBER, STRANGER, Token, no_token, tokens, value_of
 
@@ -48,14 +48,10 @@ class Reader:
         name = self.tokens[self.at - 1].text if self.at and self.tokens[self.at - 1].kind == NAME else "NAME"
         return [f"there are no operator symbols: `{name} {sign} V` is `{SIGNS[sign]}({name}, V)`"] if sign else []
 
-    def wrong(self, token: Token, wanted: str, *right: str) -> Breach:
-        what = "the end of the text" if token.kind == END else f"`{token.text}`"
-        return Breach(token, "syntax", f"the grammar does not allow {what} here", f"allowed here: {wanted}", *right)
-
     def mark(self, text: str) -> None:
         token = self.take()
         if token.text != text or token.kind == END:
-            raise self.wrong(token, f"`{text}`", *(self.sign_hint(token) if token.text == "=" else []))
+            raise not_allowed(token, f"`{text}`", *(self.sign_hint(token) if token.text == "=" else []))
 
     def query(self) -> int:
         """A query; the number of its last node."""
@@ -79,12 +75,12 @@ class Reader:
             ahead = self.tokens[self.at]
             if ahead.kind == STRANGER or ahead.text == "=":
                 right += self.sign_hint(ahead)
-        return self.wrong(token, f"a query: {FORMS}", *right)
+        return not_allowed(token, f"a query: {FORMS}", *right)
 
     def comparison(self, lead: Token) -> int:
         name = self.take()
         if name.kind != NAME:
-            raise self.wrong(name, "an object's name", *(["the name comes first: ge(NAME, V)"] if name.kind == NUMBER else []))
+            raise not_allowed(name, "an object's name", *(["the name comes first: ge(NAME, V)"] if name.kind == NUMBER else []))
         operand = self.operand(name)
         self.mark(",")
         number = self.number("a number", "a query compares an object with a number, not with an object")
@@ -115,7 +111,7 @@ class Reader:
     def number(self, wanted: str, right: str) -> Token:
         number = self.take()
         if number.kind != NUMBER:
-            raise self.wrong(number, wanted, right)
+            raise not_allowed(number, wanted, right)
         return number
 
     def join(self, lead: Token) -> int:
@@ -130,14 +126,13 @@ class Reader:
         self.nodes.append(node)
         return len(self.nodes) - 1
 
-    def read(self) -> None:
+    def read(self) -> list[Node]:
         self.query()
         token = self.take()
         if token.kind != END:
-            raise self.wrong(token, "the end of the text", "a text has one query: combine two with and(Q, Q) or or(Q, Q)")
+            raise not_allowed(token, "the end of the text", "a text has one query: combine two with and(Q, Q) or or(Q, Q)")
+        return self.nodes
 
 
 def read_query(data: bytes) -> list[Node]:
-    reader = Reader(data)
-    reader.read()
-    return reader.nodes
+    return Reader(data).read()

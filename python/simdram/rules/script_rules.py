@@ -103,16 +103,12 @@ def check_shape(verb: str, operands: list[Operand], numbers: list[Token], end: T
     form, names = form_of(verb), [one.name for one in operands]
     if verb in WHOLE and operands and operands[0].ends:
         raise Breach(operands[0].ends[0], "syntax", f"{verb} takes an object by its name alone, and not bits of it", form)
-    if len(names) > most:
-        raise Breach(names[most], "syntax", f"one name too many: {verb} takes {most}", form)
-    if len(names) < least:
-        raise Breach((numbers or [end])[0], "syntax", f"{len(names) or 'no'} name{'s' * (len(names) != 1)} where {least} "
-                     f"{'is' if least == 1 else 'are'} expected", form)
-    if greatest is not None and len(numbers) > greatest:
-        raise Breach(numbers[greatest], "syntax", f"one number too many: {verb} takes {greatest}", form)
-    if len(numbers) < fewest:
-        raise Breach(end, "syntax", f"{len(numbers) or 'no'} number{'s' * (len(numbers) != 1)} where {fewest} "
-                     f"{'is' if fewest == 1 else 'are'} expected", form)
+    for what, given, few, many, after in (("name", names, least, most, (numbers or [end])[0]), ("number", numbers, fewest, greatest, end)):
+        if many is not None and len(given) > many:
+            raise Breach(given[many], "syntax", f"one {what} too many: {verb} takes {many}", form)
+        if len(given) < few:
+            raise Breach(after, "syntax", f"{len(given) or 'no'} {what}{'s' * (len(given) != 1)} where {few} "
+                         f"{'is' if few == 1 else 'are'} expected", form)
 
 
 def check_range(token: Token, least: int, most: int, what: str) -> None:

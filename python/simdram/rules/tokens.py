@@ -3,7 +3,7 @@
 import re
 import typing
 
-NAME, NUMBER, SYMBOL, STRANGER, END = "name", "number", "symbol", "stranger", "end"
+NAME, NUMBER, SYMBOL, STRANGER, END, NEWLINE = "name", "number", "symbol", "stranger", "end", "newline"
 ITEM = re.compile(rb"(?P<gap>[ \t\r\n]+|#[^\n]*)|(?P<name>[A-Za-z_][A-Za-z0-9_]*)|(?P<number>[0-9]+)"
                   rb"|(?P<symbol>->|[][(){},;:=])|(?P<stranger>.)", re.DOTALL)
 NAME_MAX = 16
@@ -27,6 +27,11 @@ def tokens(data: bytes, item: re.Pattern = ITEM) -> list[Token]:
         if kind == STRANGER:
             return found
     return [*found, Token(END, "", len(data))]
+
+
+def said(token: Token) -> str:
+    """A token as a fault names it."""
+    return {END: "the end of the text", NEWLINE: "the end of the line"}.get(token.kind, f"`{token.text}`")
 
 
 def no_token(token: Token) -> str:

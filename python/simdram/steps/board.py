@@ -1,7 +1,5 @@
 """What cells and rows hold while a part of a microprogram is executed, by symbols."""
 
-import typing
-
 from ..assembler.forms import Form
 from ..files.decode import CELLS, RAISED
 from ..files.program import AAP, B_ADDRESS, C_ADDRESS, Instruction, Row
@@ -26,8 +24,6 @@ def letter(code, held: Held) -> tuple[str, int] | None:
 
 class Board:
     """What cells and rows hold while a part is done."""
-
-    constants: tuple[typing.Any, typing.Any] = (ZERO, ONE)
 
     def __init__(self, part: Part, rows: RowNames, names: Names, taken: dict[str, Value] | None = None, changing=()) -> None:
         self.registers, self.letter = registers(part.held), letter(part.code, part.held)
@@ -61,29 +57,18 @@ class Board:
         return [other for other in self.rows if other != name and self.places[other][:2] == (space, which)
                 and may_be_equal(self.places[other][2], form)]
 
-    def turned(self, value: typing.Any, is_inverted: bool) -> typing.Any:
-        """What an n-wordline reads or writes of a value."""
-        return complemented(value) if is_inverted else value
-
-    def voted(self, values: list[typing.Any]) -> typing.Any:
-        return self.names.named(majority(values))
-
-    def begun(self, name: str) -> typing.Any:
-        """What a row holds that is read before it is written."""
-        return self.names.named(self.before(name))
-
-    def sensed(self, row: Row) -> typing.Any:
+    def sensed(self, row: Row) -> Value:
         """What an activation of a row senses and leaves in its cells."""
         if row.space == C_ADDRESS:
-            return self.constants[row.which]
+            return (ZERO, ONE)[row.which]
         if row.space != B_ADDRESS:
             if (name := self.name(row)) not in self.rows:
                 self.found.add(name)
-                self.rows[name] = self.begun(name)
+                self.rows[name] = self.names.named(self.before(name))
             return self.rows[name]
         self.taken.update(line.cell for line in RAISED[row.which] if line.cell in self.fresh)
-        values = [self.turned(self.cells[cell], is_inverted) for cell, is_inverted in RAISED[row.which]]
-        value = self.voted(values) if len(values) == 3 else values[0]
+        values = [complemented(self.cells[cell], is_inverted) for cell, is_inverted in RAISED[row.which]]
+        value = self.names.named(majority(values)) if len(values) == 3 else values[0]
         self.settle(row, value)
         return value
 
@@ -98,20 +83,20 @@ class Board:
         self.unsure += 1
         return now_value(name, self.unsure)
 
-    def put(self, name: str, value: typing.Any) -> None:
+    def put(self, name: str, value: Value) -> None:
         self.rows[name] = value
         self.written.add(name)
         for other in self.others(name):
             if self.rows[other].pattern != value.pattern:
                 self.rows[other] = self.now(other)
 
-    def settle(self, row: Row, value: typing.Any) -> None:
+    def settle(self, row: Row, value: Value) -> None:
         """Gives a value to the cells of a row."""
         if row.space != B_ADDRESS:
             self.put(self.name(row), value)
             return
         for cell, is_inverted in RAISED[row.which]:
-            self.cells[cell] = self.turned(value, is_inverted)
+            self.cells[cell] = complemented(value, is_inverted)
             self.fresh.discard(cell)
 
     def do(self, one: Instruction) -> bool:
@@ -182,7 +167,7 @@ def over(found: list[Part], rows: RowNames) -> list[dict[str, Value]]:
         taken = [cell for cell in CELLS if cell in board.taken]
         same = groups(board.cells, taken)
         held = {cell: row_value(f"{first} before") for cell, (first, _) in same.items()}
-        turned = {cell: complemented(held[cell]) if same[cell][1] else held[cell] for cell in taken}
+        turned = {cell: complemented(held[cell], same[cell][1]) for cell in taken}
         after = {cell: turned[other] for cell in CELLS for other in taken if board.cells[cell].pattern == board.cells[other].pattern}
         names: dict[str, tuple[str, bool]] = {}
         if part.has_last:
@@ -196,9 +181,9 @@ def over(found: list[Part], rows: RowNames) -> list[dict[str, Value]]:
             held_before = old_value(name)
             if not name or any(name in one.found for one in beside):
                 held_before, is_turned = state_value(f"s{number or ''}", {name for one in beside for name in one.rows}), False
-            value = complemented(held_before) if is_turned else held_before
+            value = complemented(held_before, is_turned)
             for cells, at in ((turned, k), (turned, k - 1)) if part.has_last else ((turned, k), (after, k + 1)):
                 for cell, old in cells.items():
                     if old.text.lstrip("~") == f"{first} before" and at < len(found):
-                        made[at][cell] = complemented(value) if old.text.startswith("~") else value
+                        made[at][cell] = complemented(value, old.text.startswith("~"))
     return made

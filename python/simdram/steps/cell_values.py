@@ -44,8 +44,9 @@ def now_value(name: str, number: int) -> Value:
     return Value(text, drawn(text))
 
 
-def complemented(value: Value) -> Value:
-    if value.pattern is None:
+def complemented(value: Value, is_turned: bool = True) -> Value:
+    """The complement of a value, as an n-wordline reads or writes it; or the value itself."""
+    if value.pattern is None or not is_turned:
         return value
     if value in (ZERO, ONE):
         return ONE if value == ZERO else ZERO

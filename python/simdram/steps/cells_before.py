@@ -19,8 +19,7 @@ START: Known = tuple((cell, False) for cell in CELLS)
 
 def value_of(base: str, is_turned: bool) -> Value:
     """What a cell holds, in the name of the first cell that holds it."""
-    value = ZERO if base == CONSTANT else Value(f"old {base}", drawn(f"cell {base}"))
-    return complemented(value) if is_turned else value
+    return complemented(ZERO if base == CONSTANT else Value(f"old {base}", drawn(f"cell {base}")), is_turned)
 
 
 def named(keys: typing.Sequence[tuple[typing.Hashable, bool]], zero: typing.Hashable) -> Known:

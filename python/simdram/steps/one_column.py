@@ -3,6 +3,7 @@
 import re
 import typing
 
+from ..assembler.names import listed
 from ..assembler.walks import Place, Registers
 from ..files.decode import CELLS, RAISED
 from ..files.program import AAP, AP, B_ADDRESS, BIT, C_ADDRESS, DONE, RESULT, SOURCE, SPILL, SPILLS, WORD, Entry, Row
@@ -10,7 +11,7 @@ from ..launcher.faults import Fault
 from .positions import pieces
 
 Bit = int | None
-ROW = re.compile(r"([yz](?!\d)|[twp](?=\d))(\d*)(?:\[(\d+)\])?")
+ROW = re.compile(r"(\w+)(?:\[(\d+)\])?")
 MOST_INSTRUCTIONS = 1_000_000
 
 
@@ -96,8 +97,8 @@ class Column:
 def place_of(name: str, entry: Entry, width: int) -> Place:
     """The place of a row that is named as a listing names it, with its position: `y[3]`, `t0`, `w0[3]`, `p4`."""
     match = ROW.fullmatch(name)
-    letter, number, index = (match[1], int(match[2] or 0), int(match[3] or 0)) if match else ("", 0, 0)
-    space, which = {"y": (RESULT, 0), "z": (RESULT, 1)}.get(letter) or (dict(t=BIT, w=WORD, p=SPILL).get(letter, SOURCE), number)
+    space, which = (listed(match[1]) if match else None) or (SOURCE, 0)
+    index = int(match[2] or 0) if match else 0
     counts = {RESULT: len(entry.results), BIT: entry.bits, WORD: entry.words, SPILL: SPILLS}
     positions = {RESULT: width if entry.results[which:which + 1] == ("word",) else 1, WORD: width}
     if which >= counts.get(space, 0) or index >= positions.get(space, 1):
