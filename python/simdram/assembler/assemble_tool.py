@@ -1,4 +1,4 @@
-"""Assembles a text of microprograms into a program file.
+"""Assembles a text of microprograms, a designer's own command sequences, into a program file.
 
 TEXT has one program after another, each with its head, `program xor(a: word, b: word) -> y: word`. docs/MICROPROGRAMS.md
 teaches the text. What the file does is said by `simdram verify`. A text at fault is told with its line and column, what is

@@ -1,4 +1,4 @@
-"""Draws how many row commands the entries of program files take, over the width.
+"""Draws how many row commands the entries of program files take over the width, and formulas beside them.
 
 Each entry of each PROG has a curve: its AAP and AP together on one bank, as `simdram cost` counts them, at n = 1 to N (64
 unless --to says another), or at the widths of --widths. --column draws its AAP, its AP or its scratch rows instead, --ops

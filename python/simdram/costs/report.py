@@ -1,4 +1,4 @@
-"""A report of run, exec, trace or guard as one JSON object, or as a table.
+"""A report of run, exec, trace or guard as JSON or as a table: counts of all banks, of one bank, for each element.
 
 REPORT is a file that has what the command printed, or standard input where none is named. A report sums over banks, and
 its writes and reads include the rows that the simulator itself writes to open IMAGE and reads to store OUT, which are all

@@ -1,4 +1,4 @@
-"""Makes, shows and changes image files: numbers in, numbers out.
+"""Makes, shows, reads and changes image files: numbers in, numbers out.
 
     simdram image make OUT BANKSxROWSxWORDS [OBJECT ..]
     simdram image show IMAGE
@@ -100,7 +100,7 @@ def put(path: str, name: str, file: str) -> bytes:
 
 def main(words: typing.Sequence[str], settings: Settings) -> int:
     if {"--help", "-h"} & set(words[:2]):
-        print(about(__name__).rstrip())
+        print(about("files.image_tool").rstrip())
     else:
         verb, rest = (words[0], list(words[1:])) if words else ("", [])
         if verb == "make" and len(rest) >= 2:
@@ -115,5 +115,5 @@ def main(words: typing.Sequence[str], settings: Settings) -> int:
         elif verb == "put" and len(rest) == 3:
             write(rest[0], put(*rest), "image", settings)
         else:
-            raise WordsFault("\n".join(["these words are none of", *map(str.strip, about(__name__).split("\n\n")[1].splitlines())]))
+            raise WordsFault("\n".join(["these words are none of", *map(str.strip, about("files.image_tool").split("\n\n")[1].splitlines())]))
     return 0

@@ -1,4 +1,4 @@
-"""The majority-inverter graph of a serial block, for other tools.
+"""The majority-inverter graph of a serial block, as written or as compiled, as DOT, BLIF or AIGER.
 
 OPS is an operation text. The block is the first one of the op, or number K with --block. The graph is that of the block as
 it is written, or, with --compiled, that of the loop that it is compiled to, where each triple activation is a node; an

@@ -76,6 +76,11 @@ class Command:
         return self.form or " ".join([self.name, *(word.form for word in self.words), *(f"[{flag}]" for flag, _ in self.flags)])
 
 
+def tool(module: str, form: str, example: str) -> Command:
+    """A tool by its module, whose docstring begins with what it does."""
+    return Command(form.split()[0], (), "", example, module, form)
+
+
 OPS = Word("OPS", "ops")
 PROG = Word("PROG", "program")
 NEW_PROG = Word("PROG", "program", True)
@@ -118,50 +123,33 @@ PROGRAM = (
 )
 
 TOOLS = (
-    Command("image", (), "makes, shows, reads and changes images: numbers in, numbers out",
-            "image make mac.img 1x96x1 a:8=3,10 y:8/2", "files.image_tool", "image make|show|get|put .."),
-    Command("explain", (), "the first fault of a file, where it is and what would be right; with PROG and IMAGE, a script's refusals; with PROG and N, "
-            "what the verdicts of verify mean", "explain mac.ops", "rules.explain", "explain FILE [BESIDE ..]"),
-    Command("report", (), "a report as JSON or as a table: counts of all banks, of one bank, for each element",
-            "report --json out.report", "costs.report", "report [--json] [--image IMAGE [--script SCRIPT]] [REPORT]"),
-    Command("cost-table", (), "what each entry costs at several widths, of one program file or of several side by side",
-            "cost-table mac.prog --widths 4,8,16-20 --csv", "costs.cost_table",
-            "cost-table PROG .. [--widths 4,8,16-20] [--ops NAME,..] [--columns NAME,.. | --total] [--format text|csv|markdown|latex]"),
-    Command("profile", (), "row commands of each entry by statement and by loop, with their shares",
-            "profile mac.ops 8,16-18", "costs.profile", "profile OPS|PROG [--ops OPS] [--op NAME] [--csv] N .."),
-    Command("steps", (), "what each cell holds after each command of an operation, as text or as a page",
-            "steps mac.prog mac --ops mac.ops --with a=3,b=5,c=1 --html mac.html", "steps.steps_tool",
-            "steps PROG OP [--ops OPS] [--with A=N,B=N [--width N] [--from T3,..]] [--html PAGE]"),
-    Command("plot", (), "draws what entries of program files cost over the width, and formulas beside them",
-            'plot mac.prog mac.svg --curve "paper=8*n+1"', "costs.plot",
-            "plot PROG .. OUT.svg [--ops NAME,..] [--to N | --widths N,N,..] [--column aap|ap|rows] [--log] [--curve NAME=FORMULA ..]"),
-    Command("flips", (), "prints flips for guard: cells drawn at a rate before each instruction",
-            "flips --rate 1e-6 --seed 1 --script a.bbop a.img > a.flips", "survival.flips_tool", "flips --rate R [--seed S] --script SCRIPT IMAGE"),
-    Command("survival", (), "how often all answers of a guarded script stay right while cells flip at rates",
-            "survival mac.ops a.bbop a.img --rates 1e-6,1e-5,1e-4 --plot a.svg", "survival.survival_tool",
-            "survival OPS SCRIPT IMAGE --rates R,R,.. [--runs N] [--seed S] [--format ..] [--plot OUT]"),
-    Command("trace-text", (), "prints a trace as text, a line for each event", "trace-text mac.trace", "files.trace_text",
-            "trace-text TRACE"),
-    Command("from-hex", (), "makes a file from hexadecimal digits", "from-hex xor.hex xor.prog", "files.from_hex",
-            "from-hex NOTE FILE"),
-    Command("graph", (), "the majority graph of a serial block, as written or as compiled, as DOT, BLIF or AIGER",
-            "graph sum.ops sum.blif --format blif --compiled", "graphs.graph_tool",
-            "graph OPS [OUT] [--op NAME] [--format dot|blif|aiger] [--compiled]"),
-    Command("from-blif", (), "the text of a serial block, or of several ops, from a netlist in BLIF or AIGER", "from-blif sum.blif", "graphs.from_blif",
-            "from-blif FILE [--name NAME] [--down] [--bit NAME] [--state NAME=BIT] [--genlib LIBRARY]"),
-    Command("assemble", (), "a program file from a text of microprograms, a designer's own command sequences",
-            "assemble adder.micro adder.prog", "assembler.assemble_tool", "assemble TEXT PROG"),
-    Command("disassemble", (), "the text of a program file, which assemble takes", "disassemble adder.prog", "assembler.disassemble_tool",
-            "disassemble [--raw] PROG"),
-    Command("link", (), "the entries of several program files in one", "link mac.prog adder.prog both.prog", "assembler.link_tool",
-            "link PROG PROG .. OUT"),
-    Command("simplify", (), "writes a text with the same ops for fewer row commands, each compared with what it was for all inputs",
-            "simplify mac.ops simpler.ops", "simplify.simplify_tool",
-            "simplify OPS [NEW] [--widths N,N,..] [--width N PROG] [--seconds S] [--rows] [--unvalidated]"),
-    Command("build", (), "builds the program without proofs if none is built, and prints the path of the program that runs", "build",
-            "launcher.build_tool", "build"),
-    Command("prove", (), "proves every crate that is not proved yet, builds the proved program, and prints its path", "prove", "launcher.prove",
-            "prove"),
+    tool("files.image_tool", "image make|show|get|put ..", "image make mac.img 1x96x1 a:8=3,10 y:8/2"),
+    tool("rules.explain", "explain FILE [BESIDE ..]", "explain mac.ops"),
+    tool("costs.report", "report [--json] [--image IMAGE [--script SCRIPT]] [REPORT]", "report --json out.report"),
+    tool("costs.cost_table", "cost-table PROG .. [--widths 4,8,16-20] [--ops NAME,..] [--columns NAME,.. | --total]"
+         " [--format text|csv|markdown|latex]", "cost-table mac.prog --widths 4,8,16-20 --csv"),
+    tool("costs.profile", "profile OPS|PROG [--ops OPS] [--op NAME] [--csv] N ..", "profile mac.ops 8,16-18"),
+    tool("steps.steps_tool", "steps PROG OP [--ops OPS] [--with A=N,B=N [--width N] [--from T3,..]] [--html PAGE]",
+         "steps mac.prog mac --ops mac.ops --with a=3,b=5,c=1 --html mac.html"),
+    tool("costs.plot", "plot PROG .. OUT.svg [--ops NAME,..] [--to N | --widths N,N,..] [--column aap|ap|rows] [--log]"
+         " [--curve NAME=FORMULA ..]", 'plot mac.prog mac.svg --curve "paper=8*n+1"'),
+    tool("survival.flips_tool", "flips --rate R [--seed S] --script SCRIPT IMAGE",
+         "flips --rate 1e-6 --seed 1 --script a.bbop a.img > a.flips"),
+    tool("survival.survival_tool", "survival OPS SCRIPT IMAGE --rates R,R,.. [--runs N] [--seed S] [--format ..] [--plot OUT]",
+         "survival mac.ops a.bbop a.img --rates 1e-6,1e-5,1e-4 --plot a.svg"),
+    tool("files.trace_text", "trace-text TRACE", "trace-text mac.trace"),
+    tool("files.from_hex", "from-hex NOTE FILE", "from-hex xor.hex xor.prog"),
+    tool("graphs.graph_tool", "graph OPS [OUT] [--op NAME] [--format dot|blif|aiger] [--compiled]",
+         "graph sum.ops sum.blif --format blif --compiled"),
+    tool("graphs.from_blif", "from-blif FILE [--name NAME] [--down] [--bit NAME] [--state NAME=BIT] [--genlib LIBRARY]",
+         "from-blif sum.blif"),
+    tool("assembler.assemble_tool", "assemble TEXT PROG", "assemble adder.micro adder.prog"),
+    tool("assembler.disassemble_tool", "disassemble [--raw] PROG", "disassemble adder.prog"),
+    tool("assembler.link_tool", "link PROG PROG .. OUT", "link mac.prog adder.prog both.prog"),
+    tool("simplify.simplify_tool", "simplify OPS [NEW] [--widths N,N,..] [--width N PROG] [--seconds S] [--rows] [--unvalidated]",
+         "simplify mac.ops simpler.ops"),
+    tool("launcher.build_tool", "build", "build"),
+    tool("launcher.prove", "prove", "prove"),
 )
 
 ALL = {command.name: command for command in PROGRAM + TOOLS}

@@ -6,13 +6,21 @@ import subprocess
 
 from .commands import PROGRAM, TOOLS
 from .places import TOP
+from .tool_parser import about
 
 VERSION = "0.1.0"
 
 
+def summary(module: str) -> str:
+    """What a tool does, as the first paragraph of its docstring says it."""
+    first = " ".join(about(module).partition("\n\n")[0].split()).rstrip(".")
+    return first[0].lower() + first[1:]
+
+
 def columns(commands) -> str:
     """Each command's arguments, what it does, and an example."""
-    return "".join(f"  {command.usage()}\n      {command.says}\n      simdram {command.example}\n" for command in commands)
+    return "".join(f"  {command.usage()}\n      {command.says or summary(command.module)}\n      simdram {command.example}\n"
+                   for command in commands)
 
 
 def all_commands() -> str:

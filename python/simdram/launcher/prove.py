@@ -1,4 +1,4 @@
-"""Proves every crate that is not proved yet, lowest first, and builds the proved program.
+"""Proves every crate that is not proved yet, lowest first, builds the proved program, and prints its path.
 
 It shows crate by crate what is being proved and about how long it still takes. Ctrl-C stops it; the next call goes on.
 """

@@ -20,9 +20,9 @@ Main = typing.Callable[[Asked], int | None]
 
 
 def about(module: str) -> str:
-    """A module's docstring, from its source where the interpreter dropped it."""
-    found = sys.modules[module]
-    return found.__doc__ or ast.get_docstring(ast.parse(pathlib.Path(found.__file__).read_text(encoding="utf-8"))) or ""
+    """The docstring of a tool's module, from its source, since it may have been dropped and the module not been imported."""
+    path = pathlib.Path(__file__).parents[1] / f"{module.replace('.', '/')}.py"
+    return ast.get_docstring(ast.parse(path.read_text(encoding="utf-8"))) or ""
 
 
 class Parser(argparse.ArgumentParser):
@@ -50,8 +50,8 @@ def flag(name: str, help: str) -> Option:
 
 def parser_of(module: str, options: typing.Iterable[Option]) -> Parser:
     """The parser of a tool by its module."""
-    name = next(command.name for command in TOOLS if module.endswith(f".{command.module}"))
-    made = Parser(prog=f"simdram {name}", description=about(module), formatter_class=argparse.RawDescriptionHelpFormatter)
+    command = next(command for command in TOOLS if module.endswith(f".{command.module}"))
+    made = Parser(prog=f"simdram {command.name}", description=about(command.module), formatter_class=argparse.RawDescriptionHelpFormatter)
     for one in options:
         made.add_argument(one.name, **one.more)
     return made

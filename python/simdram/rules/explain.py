@@ -1,4 +1,5 @@
-"""Prints the first fault of a file, where it is and what would be right.
+"""The first fault of a file, where it is and what would be right; with PROG and IMAGE, a script's refusals; with PROG and N, what
+the verdicts of `verify` mean.
 
 FILE is an operation text, a script, a query, a text of flips, a text of microprograms, a program file, an image or a trace. More can
 be said with further files: with PROG and IMAGE after a script, every instruction that is refused; with IMAGE after a query, why the

@@ -1,4 +1,4 @@
-"""Writes an operation text that does the same for fewer row commands.
+"""Writes an operation text that does the same for fewer row commands, each op compared with what it was for all inputs.
 
 OPS is an operation text, and NEW another file: it gets the ops of OPS with the same parameters, results and meaning, none of
 them dearer at a width that is asked for. Without NEW the text is printed, and what is said of the ops goes to standard error.

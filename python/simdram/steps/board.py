@@ -1,5 +1,7 @@
 """What cells and rows hold while a part of a microprogram is executed, by symbols."""
 
+import typing
+
 from ..assembler.forms import Form
 from ..files.decode import CELLS, RAISED
 from ..files.program import AAP, B_ADDRESS, C_ADDRESS, Instruction, Row
@@ -23,7 +25,12 @@ def letter(code, held: Held) -> tuple[str, int] | None:
 
 
 class Board:
-    """What cells and rows hold while a part is done."""
+    """What cells and rows hold while a part is done: values here, and in a class below it others, by other constants, `turned`,
+    `voted`, `begun` and `put`."""
+
+    constants: tuple[typing.Any, typing.Any] = (ZERO, ONE)
+    # what an n-wordline reads or writes of a value
+    turned = staticmethod(complemented)
 
     def __init__(self, part: Part, rows: RowNames, names: Names, taken: dict[str, Value] | None = None, changing=()) -> None:
         self.registers, self.letter = registers(part.held), letter(part.code, part.held)
@@ -57,18 +64,25 @@ class Board:
         return [other for other in self.rows if other != name and self.places[other][:2] == (space, which)
                 and may_be_equal(self.places[other][2], form)]
 
-    def sensed(self, row: Row) -> Value:
+    def voted(self, values: list[typing.Any]) -> typing.Any:
+        return self.names.named(majority(values))
+
+    def begun(self, name: str) -> typing.Any:
+        """What a row holds that is read before it is written."""
+        return self.names.named(self.before(name))
+
+    def sensed(self, row: Row) -> typing.Any:
         """What an activation of a row senses and leaves in its cells."""
         if row.space == C_ADDRESS:
-            return (ZERO, ONE)[row.which]
+            return self.constants[row.which]
         if row.space != B_ADDRESS:
             if (name := self.name(row)) not in self.rows:
                 self.found.add(name)
-                self.rows[name] = self.names.named(self.before(name))
+                self.rows[name] = self.begun(name)
             return self.rows[name]
         self.taken.update(line.cell for line in RAISED[row.which] if line.cell in self.fresh)
-        values = [complemented(self.cells[cell], is_inverted) for cell, is_inverted in RAISED[row.which]]
-        value = self.names.named(majority(values)) if len(values) == 3 else values[0]
+        values = [self.turned(self.cells[cell], is_inverted) for cell, is_inverted in RAISED[row.which]]
+        value = self.voted(values) if len(values) == 3 else values[0]
         self.settle(row, value)
         return value
 
@@ -83,20 +97,20 @@ class Board:
         self.unsure += 1
         return now_value(name, self.unsure)
 
-    def put(self, name: str, value: Value) -> None:
+    def put(self, name: str, value: typing.Any) -> None:
         self.rows[name] = value
         self.written.add(name)
         for other in self.others(name):
             if self.rows[other].pattern != value.pattern:
                 self.rows[other] = self.now(other)
 
-    def settle(self, row: Row, value: Value) -> None:
+    def settle(self, row: Row, value: typing.Any) -> None:
         """Gives a value to the cells of a row."""
         if row.space != B_ADDRESS:
             self.put(self.name(row), value)
             return
         for cell, is_inverted in RAISED[row.which]:
-            self.cells[cell] = complemented(value, is_inverted)
+            self.cells[cell] = self.turned(value, is_inverted)
             self.fresh.discard(cell)
 
     def do(self, one: Instruction) -> bool:

@@ -1,4 +1,4 @@
-"""What each cell holds after each command of an operation, in the operands' names.
+"""What each cell holds after each command of an operation, in the operands' names, as text or as a page.
 
 PROG is a program file and OP one of its entries. The code is shown part by part, a part being the instructions between two
 places where it can jump. Its title says in which loops it stands, the outermost first, each by its first instruction, and

@@ -1,4 +1,4 @@
-"""Prints a text of flips for `guard`, drawn at a rate.
+"""Prints a text of flips for `guard`: cells drawn at a rate before each instruction.
 
 Before each instruction of SCRIPT each data cell of IMAGE, in every bank, row and column, flips with probability R, by
 itself: 1e-6 is one flip in a million cells and instructions. The same words give the same flips.
