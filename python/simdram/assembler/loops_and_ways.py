@@ -98,7 +98,6 @@ class Jumps:
         self.targets = {one.number for one in code if one.kind == BNEZ}
 
     def is_always(self, at: int) -> bool:
-        """Whether a jump is always taken."""
         one, before = self.code[at], self.code[max(0, at - 1)]
         is_set = before.kind == SETI and before.register == one.register and before.number > 0 and at not in self.targets
         return one.kind == BNEZ and (is_set or one.register in self.fixed)

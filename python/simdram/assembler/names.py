@@ -95,7 +95,6 @@ class Names:
         return Named(space, which, kinds[which])
 
     def said(self) -> str:
-        """The names of the head, with their kinds."""
         return ", ".join(f"{name} ({one.kind})" for name, one in self.known.items())
 
 

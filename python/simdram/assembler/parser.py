@@ -54,7 +54,6 @@ class Reader:
         return ProgramText(self.head, body, self.tokens.registers, self.code)
 
     def block(self) -> list[typing.Any]:
-        """The statements between braces."""
         opened = self.tokens.expect("{", " before the statements")
         body: list[typing.Any] = []
         self.tokens.skip_lines()

@@ -15,7 +15,6 @@ ADDRESS = re.compile("([BC])([0-9]+)")
 
 
 def read_row(tokens: Tokens, names: Names, loops: list[str]) -> Operand:
-    """The next row."""
     token = tokens.here
     if tokens.is_at("{", "~") or token.text in CELLS:
         return read_cells(tokens)

@@ -50,7 +50,6 @@ class Structuring:
         self.lines.append(f"{'  ' * (self.depth + 1)}{line}")
 
     def part(self, at: int, end: int) -> None:
-        """The instructions from one place to another."""
         past: int | None = None
         while at < end:
             last = self.spans.get(at, end)

@@ -29,7 +29,6 @@ class Registers:
         self.held = [self.zero] * REGISTERS if held is None else list(held)
 
     def index(self, row: Row) -> typing.Any:
-        """The value of a row's index."""
         return self.held[row.index] if row.space in INDEXED and row.index < REGISTERS else self.zero
 
     def place(self, row: Row) -> Place:

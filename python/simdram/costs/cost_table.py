@@ -36,7 +36,6 @@ Costs = dict[tuple[str, int], list[EntryCost]]
 
 
 def of_one(path: str, widths: list[int], found: Costs, banks: int, words: int) -> Rows:
-    """The table of one program file."""
     rows = (row_of(found[path, width][k], width, banks, words) for k in range(len(found[path, widths[0]])) for width in widths)
     return [[name.format(64 * words) for name in HEAD], *rows]
 
@@ -48,7 +47,6 @@ def labels_of(paths: list[str]) -> list[str]:
 
 
 def side_by_side(paths: list[str], widths: list[int], found: Costs) -> Rows:
-    """The table of several program files."""
     head: list = ["name", "width"]
     for k, label in enumerate(labels_of(paths)):
         head += [f"{label} {what}" for what in SIDE] + ([f"{label} ratio"] if k else [])
@@ -100,7 +98,6 @@ def totals(paths: list[str], widths: list[int], found: Costs) -> Rows:
 
 
 def names_of(text: str) -> list[str]:
-    """Names with commas between them."""
     return [name for name in text.split(",") if name]
 
 

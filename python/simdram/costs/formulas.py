@@ -74,7 +74,6 @@ def computed(node: ast.expr, text: str, n: int) -> Number:
 
 
 def value(text: str, width: int) -> Number:
-    """What a formula gives at a width."""
     try:
         found = computed(tree_of(text), text.strip().replace("^", "**"), width)
     except Breach as breach:

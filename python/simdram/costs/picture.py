@@ -82,7 +82,6 @@ class Picture:
 
 
 def powers_of_ten(first: float, last: float) -> list[float]:
-    """The powers of ten from one number to another."""
     powers = range(math.ceil(math.log10(first) - 1e-9), math.floor(math.log10(last) + 1e-9) + 1)
     return [10.0 ** power for power in powers]
 

@@ -25,7 +25,6 @@ def as_csv(rows: Rows) -> str:
 
 
 def as_text(rows: Rows) -> str:
-    """The table in columns."""
     cells = texts(rows)
     widths = [max(map(len, column)) for column in zip(*cells)]
     return "".join("  ".join(cell.ljust(width) for cell, width in zip(row, widths)).rstrip() + "\n" for row in cells)

@@ -85,7 +85,6 @@ class Table:
         return next((one for one in self.objects if one.name == name), None)
 
     def copy(self) -> "Table":
-        """Another table of the same objects."""
         return Table(self.banks, self.rows, self.words, list(self.objects))
 
     @property
@@ -118,7 +117,6 @@ class Table:
         return next((first for first, free in self.pieces() if free >= size), 0 if size == 0 else None)
 
     def longest(self) -> int:
-        """The rows of the longest free piece."""
         return max((free for _, free in self.pieces()), default=0)
 
     def rows_for(self, size: int) -> int:
@@ -234,7 +232,6 @@ class Image(Table):
         return b"".join(cells), size
 
     def get(self, name: str) -> list[int]:
-        """The values of the object's elements."""
         return columns.numbers_of(*self.cells(name))
 
     def set_cells(self, name: str, cells: bytes) -> None:

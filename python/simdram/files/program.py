@@ -70,12 +70,10 @@ class Instruction:
 
     @property
     def register(self) -> int:
-        """The register of byte 1."""
         return self.raw[1]
 
     @property
     def other(self) -> int:
-        """The register of byte 2."""
         return self.raw[2]
 
     @property
@@ -106,7 +104,6 @@ class Entry:
 
     @property
     def kinds(self) -> int:
-        """The kinds byte."""
         byte = sum(1 << bit for bit, kind in enumerate(self.sources) if kind == "word")
         byte |= (self.results[0] == "word") << 4
         if len(self.results) == 2:

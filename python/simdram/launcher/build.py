@@ -36,7 +36,6 @@ def out_folder() -> pathlib.Path:
 
 
 def files_in(folder: pathlib.Path) -> typing.Iterator[str]:
-    """The files below a folder."""
     for place, _, names in os.walk(folder):
         for name in names:
             yield os.path.join(place, name)
@@ -53,7 +52,6 @@ def is_old(program: pathlib.Path, folders: tuple[str, ...]) -> bool:
 
 
 def need_rt() -> None:
-    """Raises if the toolchain is missing."""
     if shutil.which("rt") is None:
         raise NoProgram("`rt` is not on the PATH; it comes with the toolchain that builds and proves the program: see "
                         "\"Requirements\" in README.md")
@@ -94,7 +92,6 @@ def compiled(work: pathlib.Path) -> pathlib.Path:
 
 
 def compile_unproved() -> None:
-    """Compiles the program without proofs."""
     need_rt()
     out_folder().mkdir(parents=True, exist_ok=True)
     with open(out_folder() / "lock", "wb") as lock:

@@ -65,7 +65,6 @@ def done(command: Command, program: str, words: list[str], flags: list[str], set
 
 
 def launch(words: list[str], settings: Settings) -> int:
-    """Runs a command of the program."""
     command = ALL.get(words[0]) if words else None
     flags = [word for word in words[1:] if word in dict(command.flags)] if command else []
     is_whole = command is not None and command.is_program and command.has_all(len(words) - 1 - len(flags))

@@ -53,7 +53,6 @@ def content(start: bytes) -> str:
 
 
 def is_full(path: str) -> bool:
-    """Whether a regular file stands there that is not empty."""
     return os.path.isfile(path) and os.path.getsize(path) > 0
 
 

@@ -36,14 +36,12 @@ class Bar:
         return f"simdram: {self.what} [{'#' * full}{'.' * (BAR - full)}] {self.done} of {self.items}{said}"
 
     def step(self) -> None:
-        """One more item is done."""
         self.done += 1
         seconds = time.monotonic() - self.began
         if self.what and seconds > SHOWN_AFTER:
             show(self.line(seconds))
 
     def end(self) -> None:
-        """The bar's line is empty again."""
         if self.what:
             show("")
 

@@ -5,7 +5,6 @@ import pathlib
 
 
 def is_top(folder: pathlib.Path) -> bool:
-    """Whether this is the repository's top folder."""
     return (folder / "crates.txt").is_file() and (folder / "crates" / "simdram").is_dir()
 
 

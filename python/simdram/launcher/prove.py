@@ -104,7 +104,6 @@ def rt_in(crate: str, verb: str, progress: Progress) -> None:
 
 
 def prove() -> None:
-    """Proves every crate that is not proved yet, and builds the program."""
     need_rt()
     out, names, began = out_folder(), crates_below("simdram"), time.time_ns()
     minutes = round(sum(SECONDS.values()) / 60)

@@ -135,6 +135,5 @@ def run(words: typing.Sequence, folder=None, settings: Settings | None = None, s
 
 
 def stop_all() -> None:
-    """Ends the calls of all threads that have not ended."""
     for running in list(_running):
         running.terminate()

@@ -81,7 +81,6 @@ def script_refusals(path: str, data: bytes, table: Table, entries: dict[str, Ent
 
 
 def query_refusals(path: str, data: bytes, table: Table) -> list[Answer]:
-    """Why a query is refused on a table."""
     return list(filter(None, [first_breach(path, data, lambda text: check_scan(read_query(text), table), refused="query")]))
 
 

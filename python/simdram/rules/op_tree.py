@@ -34,7 +34,6 @@ class Expr(typing.NamedTuple):
             yield from arg.names()
 
     def renamed(self, names: typing.Callable[[str], str]) -> "Expr":
-        """The same of other names."""
         return read(names(self.name)) if self.gate == "read" else self._replace(args=tuple(arg.renamed(names) for arg in self.args))
 
     def computed(self, of: typing.Callable[[str], Value], made: typing.Callable[[str, list[Value]], Value]) -> Value:
@@ -61,7 +60,6 @@ class WordStatement:
 
     @property
     def reads(self) -> set[str]:
-        """The names that it reads of others."""
         return set(self.args)
 
     def reading(self, names: typing.Callable[[str], str]) -> "WordStatement":
@@ -98,7 +96,6 @@ class Block:
 
     @property
     def expressions(self) -> list[Expr]:
-        """Its right sides."""
         return [expr for _, expr in self.lets + self.assigns]
 
 
@@ -195,7 +192,6 @@ class OpShape:
 
     @property
     def last_statement(self) -> StatementShape:
-        """The statement that is read."""
         return self.statements[-1]
 
     def is_open_result(self, name: str) -> bool:

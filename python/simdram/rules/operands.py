@@ -42,26 +42,22 @@ class Operand(typing.NamedTuple):
         return dataclasses.replace(found, name=self.text, base=found.base + self.low, width=self.high - self.low) if self.ends else found
 
     def check_object(self, table: Table, place: int) -> None:
-        """Refuses a name that no object has."""
         names = [one.name for one in table.objects]
         if self.name.text not in names:
             raise Breach(self.name, f"no_object {place}", f"no object has the name {self.name.text}{near(self.name.text, names)}",
                          f"objects: {', '.join(names) or 'none'}")
 
     def check_rows(self, table: Table, place: int) -> None:
-        """Refuses bits that its object does not have."""
         found = table.find(self.name.text)
         if self.ends and self.high > found.width:
             raise Breach(self.ends[-1], f"slice {place}", f"{self.text} has bit {self.high - 1}, and the highest bit of {found.name} is "
                          f"{found.width - 1}")
 
     def check_name(self) -> None:
-        """Refuses a name that is too long."""
         if is_long(self.name.text):
             raise Breach(self.name, "bad_name", f"a name has at most {NAME_MAX} bytes; this one has {len(self.name.text)}")
 
     def check_bits(self) -> None:
-        """Refuses bits that no object has."""
         if self.ends and self.low >= WIDTH_MAX:
             raise Breach(self.ends[0], "bad_number", f"a bit is 0 to {WIDTH_MAX - 1}")
         if self.ends and self.high > WIDTH_MAX:

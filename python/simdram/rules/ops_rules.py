@@ -18,7 +18,6 @@ NO_NEST = ("expressions do not nest in word statements: give the inner one a nam
 
 
 def listed(names) -> str:
-    """Names with commas between them."""
     return ", ".join(names) or "none"
 
 
@@ -272,7 +271,6 @@ class Reader:
         block.assignments[name] = self.right_side()
 
     def right_side(self) -> Expr:
-        """A value with the signs around it."""
         self.take("`=`", "=")
         found = self.value(0)
         self.take("`;`", ";")

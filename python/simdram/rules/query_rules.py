@@ -67,7 +67,6 @@ class Reader:
         return self.comparison(token) if is_test else self.join(token)
 
     def no_query(self, token: Token) -> Breach:
-        """The fault where no query begins."""
         right = []
         if token.kind == NAME:
             found = nearest(token.text, (*COMPARISONS, *JOINS))
@@ -103,7 +102,6 @@ class Reader:
         return Operand(name, tuple(ends))
 
     def end_of_bits(self, before: Operand) -> Token:
-        """One more number in brackets."""
         number = self.number("the number of a bit", FORM)
         Operand(before.name, (*before.ends, number)).check_bits()
         return number

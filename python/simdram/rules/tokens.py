@@ -49,7 +49,6 @@ def line_of(data: bytes, at: int) -> int:
 
 
 def is_long(name: str) -> bool:
-    """Whether a name has more bytes than a name may have."""
     return len(name) > NAME_MAX
 
 

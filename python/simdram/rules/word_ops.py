@@ -84,7 +84,6 @@ def may_take(name: str, given: list[str], kind: str) -> bool:
 
 
 def wants_more(name: str, given: list[str]) -> bool:
-    """Whether another argument is wanted."""
     return any(takes[:len(given)] == given and len(takes) > len(given) for takes, _ in forms(name))
 
 

@@ -124,7 +124,6 @@ class Board:
         return True
 
     def whole(self, code) -> "Board":
-        """The board after all instructions."""
         for one in code:
             self.do(one)
         return self

@@ -49,7 +49,6 @@ def direction(code, used: set[int]) -> list[str]:
 
 
 def part_at(code, found: Outline, first: int, past: int) -> Part:
-    """The part between two places."""
     around, said = found.around(first, past), found.said(first, past)
     if not around:
         return Part(first, code[first:past], ", ".join(said) or "once", False)

@@ -24,7 +24,6 @@ def counted(iterations: typing.Sequence[typing.Any]) -> str:
 
 
 def shown(bit: int | None) -> str:
-    """A bit, or ? where nothing has set it."""
     return "?" if bit is None else str(bit)
 
 

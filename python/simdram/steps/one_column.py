@@ -59,7 +59,6 @@ class Column:
         return value
 
     def settle(self, row: Row, value: Bit) -> None:
-        """Gives a bit to the cells of a row."""
         if row.space != B_ADDRESS:
             self.rows[self.registers.place(row)] = value
             return

@@ -20,7 +20,6 @@ def registers(held: Held) -> Registers:
 
 
 def after(code: typing.Iterable[Instruction], held: Held) -> Held:
-    """What the registers hold after instructions."""
     there = registers(held)
     for one in code:
         there.do(one)
