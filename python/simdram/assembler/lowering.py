@@ -7,7 +7,7 @@ from ..files.program import ADD, ADDI, BNEZ, CODE, DONE, LARGEST, MOV, REGISTERS
 from ..rules.answer import Breach
 from ..rules.tokens import NUMBER, Token
 from .forms import N, Form
-from .registers import Registers, least, needs_of, tested
+from .registers import least, needs_of, tested
 from .tree import Command, For, Head, If, Jump, Label, Next, Numbered, Operand, Out, ProgramText
 
 # the label where a program for one width is stuck at others
@@ -42,7 +42,8 @@ class Lowering:
         self.program, self.is_lean = program, is_lean
         # subscripts that are no loop's and stand in registers until these are needed, or the code can be jumped to
         self.kept: dict[Form, int] = {}
-        self.registers = Registers(program.registers)
+        # what registers hold; those that the program names itself are not given out
+        self.holds = {register: "the program names it" for register in program.registers}
         self.code: list[Out] = []
         self.labels: dict[str, int] = {}
         self.held: dict[Form, int] = {}
@@ -67,7 +68,7 @@ class Lowering:
                 self.hold(form, form, one.token)
             self.statement(one)
             for form in (form for form in spans if last[form] == k):
-                self.registers.free(self.held.pop(form))
+                self.free(self.held.pop(form))
         if not self.code or self.code[-1].kind != DONE or len(self.code) in self.labels.values():
             self.emit(DONE)
         if stuck is not None:
@@ -86,14 +87,22 @@ class Lowering:
         self.emit(SUBI, register, number=self.program.head.width)
         self.labels[WRONG_WIDTH] = -1
         self.emit(BNEZ, register, number=WRONG_WIDTH)
-        self.registers.free(register)
+        self.free(register)
         return register
 
     def take(self, token: Token, what: str) -> int:
         """A free register for something: where there is none, that of a subscript that is kept."""
-        if self.kept and len(self.registers.holds) == REGISTERS:
-            self.registers.free(self.kept.pop(next(iter(self.kept))))
-        return self.registers.take(token, what)
+        if self.kept and len(self.holds) == REGISTERS:
+            self.free(self.kept.pop(next(iter(self.kept))))
+        if (free := next((register for register in range(REGISTERS) if register not in self.holds), None)) is None:
+            held = ", ".join(f"r{register} {said}" for register, said in sorted(self.holds.items()))
+            raise Breach(token, "register", f"there is no register left for {what}: {held}",
+                         "fewer subscripts in one loop, or fewer loops in each other, take fewer registers")
+        self.holds[free] = what
+        return free
+
+    def free(self, register: int) -> None:
+        del self.holds[register]
 
     def emit(self, kind: int, register: int = 0, other: int = 0, number: int | str = 0, rows: tuple[Row, ...] = ()) -> None:
         self.code.append(Out(self.token, kind, register, other, number, rows))
@@ -106,7 +115,7 @@ class Lowering:
     def place(self, label: str) -> None:
         """A label stands before the next instruction, where nothing is known of registers that are set before a command."""
         for register in self.kept.values():
-            self.registers.free(register)
+            self.free(register)
         self.kept.clear()
         self.labels[label] = len(self.code)
 
@@ -154,7 +163,7 @@ class Lowering:
         if (register := one.register) is None:
             register = self.take(one.token, "a jump")
             self.emit(SETI, register, number=1)
-            self.registers.free(register)
+            self.free(register)
         self.token = one.target
         self.emit(BNEZ, register, number=one.target.text)
 
@@ -225,8 +234,8 @@ class Lowering:
         self.frames.pop()
         self.around.pop()
         for form in forms:
-            self.registers.free(self.held.pop(form))
-        self.registers.free(count)
+            self.free(self.held.pop(form))
+        self.free(count)
 
     def load_count(self, loop: For, count: int, end: str) -> None:
         """Sets a register to the number of iterations, and leads past the loop where there is none."""
@@ -273,7 +282,7 @@ class Lowering:
         self.emit(SUBI, register, number=1)
         self.emit(SUBI, left, number=1)
         self.emit(BNEZ, left, number=again)
-        self.registers.free(left)
+        self.free(left)
 
     def choice(self, one: If) -> None:
         """What is done where a form is zero, and what where it is not."""
@@ -284,14 +293,14 @@ class Lowering:
         if number is not None:
             self.compare(register, number, other if one.other else end)
         self.emit(BNEZ, register, number=other if one.other else end)
-        self.registers.free(register)
+        self.free(register)
         self.statements(one.zero)
         if one.other:
             self.token = one.token
             past = self.take(one.token, "an `if`")
             self.emit(SETI, past, number=1)
             self.emit(BNEZ, past, number=end)
-            self.registers.free(past)
+            self.free(past)
             self.place(other)
             self.around.append(one)
             self.statements(one.other)

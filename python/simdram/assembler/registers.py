@@ -1,11 +1,8 @@
-"""Registers: which forms a loop, or the program itself, holds in them, subscripts of its rows and what inner loops begin with;
-and those that the assembler gives out, which are the ones that the program does not name itself."""
+"""Which forms a loop, or the program itself, holds in registers: subscripts of its rows, and what inner loops begin with."""
 
 import typing
 
-from ..files.program import REGISTERS
 from ..rules.answer import Breach
-from ..rules.tokens import Token
 from .forms import N, Form
 from .tree import Command, For, If
 
@@ -87,21 +84,3 @@ def tested(one: If, around: Around) -> tuple[Form, int | None]:
             return alone, -form.number
     raise Breach(one.token, "number", f"{one.form} may be above and below zero here", "the one side is never less than the other, or is "
                     "a number")
-
-
-class Registers:
-    """Which registers are free, and what the others hold."""
-
-    def __init__(self, named: typing.Iterable[int]) -> None:
-        self.holds = {register: "the program names it" for register in named}
-
-    def take(self, token: Token, what: str) -> int:
-        if not (free := [register for register in range(REGISTERS) if register not in self.holds]):
-            held = ", ".join(f"r{register} {said}" for register, said in sorted(self.holds.items()))
-            raise Breach(token, "register", f"there is no register left for {what}: {held}",
-                            "fewer subscripts in one loop, or fewer loops in each other, take fewer registers")
-        self.holds[free[0]] = what
-        return free[0]
-
-    def free(self, register: int) -> None:
-        del self.holds[register]

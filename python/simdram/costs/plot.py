@@ -11,7 +11,6 @@ so.
 
 import argparse
 import itertools
-import typing
 
 from ..launcher.faults import Fault
 from ..launcher.say import say
@@ -60,29 +59,21 @@ def drawn_of(words: list[str], widths: list[int]) -> Counts:
     return {name: [formulas.value(text, n) for n in widths] for name, text in pairs.items()}
 
 
-class Lines(typing.NamedTuple):
-    """How curves are drawn: over which widths, and whether the axis of the counts is logarithmic, which has no 0."""
-
-    widths: list[int]
-    is_log: bool
-
-    def of(self, name: str, values: list[float], colour: str, is_dashed: bool = False) -> Line:
-        """A curve over the width; what a formula has below 0 is not drawn, and on a logarithmic axis no 0 is."""
-        points = [(n, value) for n, value in zip(self.widths, values) if value > 0 or (value == 0 and not self.is_log)]
-        if not points:
-            raise Fault(f"{name} is {'not above' if self.is_log else 'below'} 0 at each width")
-        return Line(name, points, colour, is_dashed)
-
-    def all(self, found: Counts, ceilings: Counts, others: Counts) -> list[Line]:
-        """The lines of the picture: each entry with its ceiling, and then the other formulas."""
-        colours = itertools.cycle(COLOURS)
-        lines = []
-        for name, values in found.items():
-            colour = next(colours)
-            lines.append(self.of(name, values, colour))
-            if name in ceilings:
-                lines.append(self.of(f"{name}, ceiling", ceilings[name], colour, True))
-        return lines + [self.of(name, values, next(colours), True) for name, values in others.items()]
+def lines_of(widths: list[int], found: Counts, ceilings: Counts, others: Counts, is_log: bool) -> list[Line]:
+    """The lines of the picture: each entry with its ceiling, and then the other formulas. What a formula has below 0 is not
+    drawn, and on a logarithmic axis no 0 is."""
+    colours, drawn = itertools.cycle(COLOURS), []
+    for name, values in found.items():
+        colour = next(colours)
+        drawn.append((name, values, colour, False))
+        if name in ceilings:
+            drawn.append((f"{name}, ceiling", ceilings[name], colour, True))
+    drawn += [(name, values, next(colours), True) for name, values in others.items()]
+    lines = [Line(name, [(n, value) for n, value in zip(widths, values) if value > 0 or (value == 0 and not is_log)], *more)
+             for name, values, *more in drawn]
+    if empty := [line.name for line in lines if not line.points]:
+        raise Fault(f"{empty[0]} is {'not above' if is_log else 'below'} 0 at each width")
+    return lines
 
 
 def width(text: str) -> int:
@@ -111,5 +102,5 @@ def main(asked: Asked) -> None:
     ceilings = drawn_of(asked.ceiling, widths)
     if unknown := [name for name in ceilings if name not in found]:
         raise Fault(f"--ceiling names {unknown[0]}, and these are drawn: {', '.join(found)}")
-    lines = Lines(widths, asked.log).all(found, ceilings, others)
+    lines = lines_of(widths, found, ceilings, others, asked.log)
     picture.write(Picture(lines, "width n", COLUMNS[asked.column], is_high_log=asked.log), out, asked.settings)

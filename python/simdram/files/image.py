@@ -4,6 +4,7 @@ Element e of an object stands in bank e / (64 * words), column e modulo (64 * wo
 """
 
 import dataclasses
+import itertools
 import struct
 import typing
 
@@ -103,14 +104,10 @@ class Table:
 
     def pieces(self) -> list[tuple[int, int]]:
         """The free pieces of the rows for objects: first row and number of rows, upwards."""
-        found, at = [], 0
-        for one in sorted(self.objects, key=lambda one: one.base):
-            if one.base > at:
-                found.append((at, one.base - at))
-            at = max(at, one.past)
-        if self.rows - SPILL_ROWS > at:
-            found.append((at, self.rows - SPILL_ROWS - at))
-        return found
+        taken = sorted((one.base, one.past) for one in self.objects)
+        starts = itertools.accumulate((past for _, past in taken), max, initial=0)
+        ends = [*(base for base, _ in taken), self.rows - SPILL_ROWS]
+        return [(start, end - start) for start, end in zip(starts, ends) if start < end]
 
     def least_free(self, size: int) -> int | None:
         """The first row of the least free piece of so many rows."""
