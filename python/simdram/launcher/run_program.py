@@ -93,9 +93,9 @@ class Ended(typing.NamedTuple):
     out: str
     err: str
 
-    def check(self, what: str) -> None:
-        """Raises what it said where it did not end with status 0."""
-        if self.status:
+    def check(self, what: str, right: typing.Container[int] = (0,)) -> None:
+        """Raises what it said where it did not end with a right status."""
+        if self.status not in right:
             raise Fault(f"{what} ended with status {self.status}: {self.out.strip() or self.err.strip()}")
 
 

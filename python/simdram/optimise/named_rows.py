@@ -17,8 +17,6 @@ from ..launcher import run_program
 from ..rules.verdicts import verdicts_of
 
 WIDTHS, SOME_WIDTHS = range(1, 129), (*range(1, 17), 31, 32, 33, 128)
-# where the space of a command's first row stands in its bytes, and where that of its second
-PLACES = (1, 4)
 
 
 def stays_in_words(entry: Entry, widths: typing.Iterable[int] = WIDTHS) -> bool:
@@ -38,11 +36,8 @@ def with_fewer_rows(entry: Entry, widths: typing.Iterable[int] = WIDTHS) -> Entr
         kept[WORD] = list(range(entry.words))
 
     def renamed(one: Instruction) -> Instruction:
-        raw = bytearray(one.raw)
-        for at, row in zip(PLACES, one.rows):
-            if row.space in kept:
-                raw[at + 1] = kept[row.space].index(row.which)
-        return Instruction(one.kind, bytes(raw))
+        rows = [row._replace(which=kept[row.space].index(row.which)) if row.space in kept else row for row in one.rows]
+        return Instruction.of(one.kind, rows=rows) if rows else one
 
     return dataclasses.replace(entry, bits=len(kept[BIT]), words=len(kept[WORD]), code=tuple(map(renamed, entry.code)))
 

@@ -47,11 +47,11 @@ class Found(typing.NamedTuple):
         return SHORTER.fullmatch(self.line) is not None
 
 
-class Refused(Exception):
+class Refused(Fault):
     """The program refused a file, or ended otherwise without a result."""
 
     def __init__(self, ended: run_program.Ended) -> None:
-        super().__init__(ended.out)
+        super().__init__(f"optimise ended with status {ended.status}: {ended.out.strip()}")
         self.ended = ended
 
 
@@ -82,14 +82,11 @@ class Search:
 
     def file(self) -> bytes:
         """The program file of what was found; where it were too long, entries that grew most stand as they were."""
-        by_growth = sorted(range(len(self.found)), key=lambda k: len(self.before[k].code) - len(self.found[k].entry.code))
-        for k in [-1, *by_growth]:
-            if k >= 0:
-                self.found[k] = Found(self.before[k], f"{self.before[k].name} as it was")
-            made = Program([one.entry for one in self.found]).file()
-            if len(made) <= LIMITS["program"]:
-                return made
-        raise AssertionError("the program fits without a line")
+        by_growth = iter(sorted(range(len(self.found)), key=lambda k: len(self.before[k].code) - len(self.found[k].entry.code)))
+        while len(made := Program([one.entry for one in self.found]).file()) > LIMITS["program"]:
+            k = next(by_growth)
+            self.found[k] = Found(self.before[k], f"{self.before[k].name} as it was")
+        return made
 
     def report(self) -> str:
         """The lines of all entries, and the last line, as the program writes them."""
@@ -169,19 +166,14 @@ class Fewest(typing.NamedTuple):
 
 def compiled(path: str, ops: str, prog: str) -> list[Entry]:
     """The entries of a text that the program accepts."""
-    ended = run_program.run(["compile", ops, prog], path=path)
-    if ended.status:
-        raise Fault(f"compile ends with status {ended.status}: {''.join(ended.out.splitlines()[-1:])}")
+    run_program.run(["compile", ops, prog], path=path).check("compile")
     return Program.load(prog).entries
 
 
 def searched(path: str, ops: str, prog: str, n: int, work: int) -> tuple[list[Entry], list[Entry]]:
     """The entries of a text, and what a search finds for them at a width."""
     search = Search(path, Asked(ops, n, SEED, work), compiled(path, ops, prog))
-    try:
-        search.run()
-    except Refused as refused:
-        raise Fault(f"optimise ends with status {refused.ended.status}: {''.join(refused.ended.out.splitlines()[-1:])}") from None
+    search.run()
     return search.before, [one.entry for one in search.found]
 
 

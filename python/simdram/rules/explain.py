@@ -73,8 +73,7 @@ def of_ops(path: str, data: bytes, beside: dict, width: int, settings: Settings)
     prog, file = beside["program"]
     program = Program.read(file, prog)
     ended = run_program.run(["verify", path, prog, width], settings=settings)
-    if ended.status not in VERIFIED:
-        raise Fault(f"verify ends with status {ended.status}: {''.join(ended.out.splitlines()[-1:])}")
+    ended.check("verify", VERIFIED)
     return answers_on(verdicts_of(ended.out), shapes_of(path, data), program, prog, width)
 
 
