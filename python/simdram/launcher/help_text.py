@@ -1,5 +1,6 @@
 """What the command says of itself: the help on all commands, and its version."""
 
+import contextlib
 import pathlib
 import string
 import subprocess
@@ -32,9 +33,7 @@ def version() -> str:
     """The version, and the commit where git tells it."""
     said = f"simdram {VERSION}"
     if TOP is not None and (pathlib.Path(TOP) / ".git").exists():
-        try:
-            ended = subprocess.run(["git", "-C", str(TOP), "rev-parse", "--short", "HEAD"], capture_output=True, text=True, check=False)
-        except OSError:
-            return said
-        said += f" ({ended.stdout.strip()})" if ended.returncode == 0 else ""
+        with contextlib.suppress(OSError, subprocess.CalledProcessError):
+            commit = subprocess.run(["git", "-C", str(TOP), "rev-parse", "--short", "HEAD"], capture_output=True, text=True, check=True)
+            said += f" ({commit.stdout.strip()})"
     return said

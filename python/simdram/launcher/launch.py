@@ -60,7 +60,6 @@ def done(command: Command, program: str, words: list[str], flags: list[str], set
     if command.runner:
         return importlib.import_module(f"..{command.runner}", __package__).run(program, words[1:], flags, settings)
     written = overwrite.Written(words, settings)
-    written.keep()
     return run_program.follow(program, written.words, written.settle)
 
 

@@ -139,22 +139,16 @@ def write(path: str, data: bytes, kind: str, settings: Settings) -> None:
 
 
 class Written:
-    """The files that a command of the program writes, and its words with their links resolved."""
+    """A command's words with the links of what it writes resolved, and the copies of what stands there."""
 
     def __init__(self, words: list[str], settings: Settings) -> None:
-        command, self.settings = ALL[words[0]], settings
-        pairs = list(zip(command.words, words[1:]))
-        self.words = [words[0], *(place_of(text) if word.is_written else text for word, text in pairs)]
-        self.files = [(word, text) for word, text in pairs if word.is_written]
-
-    def keep(self) -> None:
-        """Keeps what stands where the command may write."""
-        self.copies: list[Kept] = []
-        for word, text in self.files:
-            place = place_of(text)
-            told_of(place, self.settings)
-            if is_full(place) and not self.settings.force and may_stand(text, word.kind):
-                self.copies.append(Kept(place, word.kind, kept(place)))
+        self.words, self.settings, self.copies = list(words), settings, []
+        for k, word in enumerate(ALL[words[0]].words[:len(words) - 1], 1):
+            if word.is_written:
+                self.words[k] = place = place_of(words[k])
+                told_of(place, settings)
+                if is_full(place) and not settings.force and may_stand(place, word.kind):
+                    self.copies.append(Kept(place, word.kind, kept(place)))
 
     def settle(self) -> None:
         for one in self.copies:

@@ -38,12 +38,10 @@ def kinds(settings: Settings) -> tuple[str, ...]:
 
 def standing(settings: Settings) -> str | None:
     """The program, if it is already built from the sources as they are."""
-    if given():
-        return given()
-    for name in kinds(settings) if TOP is not None else ():
-        if not build.is_old(build.out_folder() / name, build.SOURCES[name]):
-            return str(build.out_folder() / name)
-    return None
+    if (found := given()) or TOP is None:
+        return found
+    return next((str(build.out_folder() / name) for name in kinds(settings)
+                 if not build.is_old(build.out_folder() / name, build.SOURCES[name])), None)
 
 
 def program(settings: Settings) -> str:

@@ -101,9 +101,6 @@ class Aftermath:
 
     def tell(self, status: int) -> None:
         """Says it, where the files can still be read."""
-        try:
-            lines = self.lines(status)
-        except (LookupError, FileFault, OSError):
-            return
-        if lines:
-            print("\n".join(lines), file=sys.stderr, flush=True)
+        with contextlib.suppress(LookupError, FileFault, OSError):
+            if lines := self.lines(status):
+                print("\n".join(lines), file=sys.stderr, flush=True)

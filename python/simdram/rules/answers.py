@@ -86,8 +86,7 @@ def query_refusals(path: str, data: bytes, table: Table) -> list[Answer]:
 
 def flips_fault(path: str, data: bytes, script: tuple[str, bytes], table: Table) -> list[Answer]:
     """The first fault of a text of flips for a script and an image, or that of the script."""
-    wrong = first_fault("script", *script)
-    found = wrong or first_breach(path, data, check_flips, len(read_script(script[1])), table)
+    found = first_fault("script", *script) or first_breach(path, data, check_flips, len(read_script(script[1])), table)
     return [found] if found else []
 
 

@@ -23,7 +23,7 @@ from .answer import Answer
 from .ops_rules import shapes_of
 from .query_rules import COMPARISONS, JOINS
 from .script_rules import FORMS as INSTRUCTIONS
-from .tokens import NAME, NUMBER, tokens
+from .tokens import NUMBER, tokens
 from .verdict_answers import answers_on
 from .verdicts import VERIFIED, verdicts_of
 
@@ -35,6 +35,9 @@ FORMS = {"script": "SCRIPT PROG IMAGE", "query": "QUERY IMAGE", "flips": "FLIPS 
 ENDINGS = {".ops": "ops", ".bbop": "script", ".query": "query", ".flips": "flips", ".prog": "program", ".img": "image",
            ".trace": "trace", ".micro": "micro"}
 PROBE = 4096
+# the kind of a text that begins with a word
+FIRST_WORDS = {**dict.fromkeys(INSTRUCTIONS, "script"), **dict.fromkeys(("program", "version"), "micro"),
+               **dict.fromkeys((*COMPARISONS, *JOINS), "query")}
 
 
 def by_first_word(data: bytes) -> str:
@@ -42,11 +45,7 @@ def by_first_word(data: bytes) -> str:
     first = tokens(data[:PROBE])[0]
     if first.kind == NUMBER:
         return "flips"
-    if first.kind == NAME and (first.text in INSTRUCTIONS or first.text.startswith("bbop_")):
-        return "script"
-    if first.kind == NAME and first.text in ("program", "version"):
-        return "micro"
-    return "query" if first.kind == NAME and first.text in (*COMPARISONS, *JOINS) else "ops"
+    return "script" if first.text.startswith("bbop_") else FIRST_WORDS.get(first.text, "ops")
 
 
 def loaded(path: str) -> tuple[str, bytes]:

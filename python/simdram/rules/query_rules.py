@@ -90,21 +90,17 @@ class Reader:
 
     def operand(self, name: Token) -> Operand:
         """The operand of this name: each token is checked before the next is read."""
-        Operand(name).check_name()
-        if self.tokens[self.at].text != "[":
-            return Operand(name)
-        self.mark("[")
-        ends = [self.end_of_bits(Operand(name))]
-        if self.tokens[self.at].text == ":":
-            self.mark(":")
-            ends.append(self.end_of_bits(Operand(name, tuple(ends))))
-        self.mark("]")
-        return Operand(name, tuple(ends))
-
-    def end_of_bits(self, before: Operand) -> Token:
-        number = self.number("the number of a bit", FORM)
-        Operand(before.name, (*before.ends, number)).check_bits()
-        return number
+        found = Operand(name)
+        found.check_name()
+        for mark in "[:":
+            if self.tokens[self.at].text != mark:
+                break
+            self.mark(mark)
+            found = Operand(name, (*found.ends, self.number("the number of a bit", FORM)))
+            found.check_bits()
+        if found.ends:
+            self.mark("]")
+        return found
 
     def number(self, wanted: str, right: str) -> Token:
         number = self.take()

@@ -50,9 +50,6 @@ class Checker:
                     refusal.token = refusal.token._replace(text=refusal.token.text[1:])
                 raise
 
-    def do_order(self, _one: Instruction) -> None:
-        pass
-
     def do_bbop_trsp_init(self, one: Instruction) -> None:
         token, count, width, table = one.operands[0].name, one.number(0), one.number(1), self.table
         if table.find(token.text):
@@ -76,7 +73,7 @@ class Checker:
             for place, operand in enumerate(one.operands):
                 check(operand, self.table, place)
 
-    do_print = places
+    do_print = do_order = places
 
     def do_load(self, one: Instruction) -> None:
         self.places(one)
