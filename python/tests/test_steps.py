@@ -213,8 +213,8 @@ class Pages(unittest.TestCase):
             entry = self.program.find(name)
             for _ in range(20):
                 a, b = dice.randrange(256), dice.randrange(1, 256)
-                column = Column(entry, 8, [a, b])
-                self.assertGreater(len(list(column.run())), 0)
+                column = Column(entry, 8, [a, b]).run()
+                self.assertGreater(len(column.path), 0)
                 self.assertEqual([int(column.result(k)) for k in range(len(entry.results))], function(a, b), (name, a, b))
 
     def test_iterations(self):
@@ -257,14 +257,13 @@ class Pages(unittest.TestCase):
     def test_an_endless_loop_ends(self):
         code = tuple(Instruction(raw[0], bytes(raw)) for raw in ([SETI, 1, 1] + [0] * 5, [BNEZ, 1] + [0] * 6, [0] * 8))
         with self.assertRaisesRegex(Fault, "executes over 1,000,000 instructions at the width 8"):
-            list(Column(Entry("f", ("word",), ("word",), 0, 0, code), 8, [3]).run())
+            Column(Entry("f", ("word",), ("word",), 0, 0, code), 8, [3]).run()
 
     def test_an_unset_row_has_no_bit(self):
         stuck = TOP / "examples" / "exec" / "xor.hex"
         self.assertEqual(called("from-hex", str(stuck), "x.prog", cwd=self.folder).returncode, 0)
         entry = Program.load(str(self.folder / "x.prog")).entries[0]
-        column = Column(entry, 4, [3] * len(entry.sources))
-        list(column.run())
+        column = Column(entry, 4, [3] * len(entry.sources)).run()
         self.assertRegex(column.result(0), r"^(\d+|[01?]+)$")
 
 

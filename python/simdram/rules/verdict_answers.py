@@ -55,9 +55,7 @@ def of_start(verdict: Verdict, shape: OpShape, entry: Entry, n: int) -> str:
     """What a case's start has to do with it."""
     cells = " and ".join([", ".join(verdict.start[:-1])] * (len(verdict.start) > 1) + [verdict.start[-1]])
     # what the entry gives where all cells and rows but the sources hold 0 at the start
-    column = Column(entry, n, list(verdict.operands.values()), ())
-    for _ in column.run():
-        pass
+    column = Column(entry, n, list(verdict.operands.values()), ()).run()
     found = tuple(int(column.result(which)) for which in range(len(entry.results)))
     if found == verdict.wanted:
         held, each = ("it holds", "it") if len(verdict.start) == 1 else ("they hold", "each of them")

@@ -9,7 +9,7 @@ from ..files.program import REGISTERS, RESULT, SOURCE, Entry, Row
 from ..launcher.faults import Fault
 from .board import LETTER, letter
 from .code_parts import Part
-from .one_column import Column, Moment, numbers_of
+from .one_column import Column, numbers_of
 from .op_texts import OpText
 from .positions import of_rows
 from .row_names import RowNames
@@ -52,9 +52,8 @@ class Execution:
 
     def __init__(self, entry: Entry, width: int, numbers: typing.Sequence[int], rows: RowNames,
                  ones: typing.Collection[str] | None = None) -> None:
-        column = Column(entry, width, numbers, ones)
-        self.moments: list[Moment] = list(column.run())
-        self.width, self.path, self.firsts = width, column.path, column.firsts
+        column = Column(entry, width, numbers, ones).run()
+        self.width, self.path, self.begun = width, column.path, column.begun
         sources, results = ([rows.base(Row(space, which, REGISTERS)) for which in range(count)]
                             for space, count in ((SOURCE, len(numbers)), (RESULT, len(entry.results))))
         given = ", ".join(f"{name} = {number}" for name, number in zip(sources, numbers))
@@ -65,23 +64,17 @@ class Execution:
     def iterations(self, part: Part, done: typing.Sequence[typing.Any]) -> list[dict[str, typing.Any]]:
         """For each time that a part is executed, its registers at the start, what its subscripts are counted from, and the bits
         after each of its commands."""
-        runs = {loop: runs_of(self.path, *loop) for loop in part.loops}
-        found = [{"registers": registers, "held": counted_by(part, registers), "inside": inside(runs, when), "bits": []}
-                 for when, registers in self.firsts[part.first][:MOST]]
-        number = -1
-        for moment in self.moments:
-            if moment.at == part.first + next(k for k, one in enumerate(part.code) if one.rows):
-                number += 1
-                if number == len(found):
-                    break
-                known, places = {}, {}
-            if part.first <= moment.at < part.first + len(part.code):
-                bits = found[number]["bits"]
+        runs, found = {loop: runs_of(self.path, *loop) for loop in part.loops}, []
+        for begun in self.begun[part.first][:MOST]:
+            known, places, bits = {}, {}, []
+            for step, moment in zip(done, begun.moments):
                 known.update(zip(CELLS, map(shown, moment.cells)))
-                places.update(zip(done[len(bits)].of_rows, moment.places))
+                places.update(zip(step.of_rows, moment.places))
                 held = dict(zip(moment.places, map(shown, moment.rows)))
                 known.update((name, held[place]) for name, place in places.items() if place in held)
                 bits.append(dict(known))
+            found.append({"registers": begun.registers, "held": counted_by(part, begun.registers), "inside": inside(runs, begun.when),
+                          "bits": bits})
         for k, one in enumerate(found):
             if one["inside"] == f"{k + 1} of {len(found)} of the loop at {part.loops[0][0] if part.loops else ''}":
                 one["inside"] = ""

@@ -16,14 +16,20 @@ MOST_INSTRUCTIONS = 1_000_000
 
 
 class Moment(typing.NamedTuple):
-    """After a row command: its place in the code, the cells' bits, the places of the command's data rows and their bits, and how
-    many instructions were executed before it."""
+    """After a row command: the cells' bits, the places of the command's data rows, and their bits."""
 
-    at: int
     cells: tuple[Bit, ...]
     places: tuple[Place, ...]
     rows: tuple[Bit, ...]
+
+
+class Begun(typing.NamedTuple):
+    """A time that a part of the code is executed: how many instructions were before, what the registers held, and what stands
+    after each of its row commands."""
+
     when: int
+    registers: tuple[int, ...]
+    moments: list[Moment]
 
 
 class Column:
@@ -42,8 +48,8 @@ class Column:
                 self.rows[place_of(name, entry, width)] = 1
         self.registers = Registers(width)
         self.path: list[int] = []
-        # where each part begins, and what the registers held each time that it did: how many instructions before, and these
-        self.firsts = {first: [] for first, _ in pieces(entry.code)}
+        # of each part by its first instruction the times that it is executed
+        self.begun: dict[int, list[Begun]] = {first: [] for first, _ in pieces(entry.code)}
         for which, number in enumerate(numbers):
             self.rows.update(((SOURCE, which, k), number >> k & 1) for k in range(width))
 
@@ -65,13 +71,14 @@ class Column:
         for cell, turned in RAISED[row.which]:
             self.cells[cell] = inverted(value, turned)
 
-    def run(self) -> typing.Iterator[Moment]:
-        """Executes the code, and gives what stands after each row command."""
+    def run(self) -> "Column":
+        """Executes the code."""
         at = 0
         while self.entry.code[at].kind != DONE:
             one = self.entry.code[at]
-            if at in self.firsts:
-                self.firsts[at].append((len(self.path), tuple(self.registers.held)))
+            if at in self.begun:
+                moments: list[Moment] = []
+                self.begun[at].append(Begun(len(self.path), tuple(self.registers.held), moments))
             self.path.append(at)
             if len(self.path) == MOST_INSTRUCTIONS:
                 raise Fault(f"{self.entry.name} executes over {MOST_INSTRUCTIONS:,} instructions at the width {self.width}")
@@ -80,9 +87,9 @@ class Column:
                 if one.kind == AAP:
                     self.settle(one.rows[1], value)
                 places = tuple(self.registers.place(row) for row in one.rows if row.is_data)
-                bits = tuple(self.rows.get(place, self.unset) for place in places)
-                yield Moment(at, tuple(self.cells.values()), places, bits, len(self.path) - 1)
+                moments.append(Moment(tuple(self.cells.values()), places, tuple(self.rows.get(place, self.unset) for place in places)))
             at = self.registers.next(at, one)
+        return self
 
     def result(self, which: int) -> str:
         """The number of a result, or its bits from the top where some bit was never set."""

@@ -153,7 +153,7 @@ class View:
         for name, what in subscripts:
             lines += textwrap.wrap(f"{name} is {what}", WIDEST, initial_indent="  ", subsequent_indent="    ")
         start = {cell: value.text for cell, value in Board(part, self.rows, names, taken).cells.items()}
-        when = [one for one, _ in self.run.firsts[part.first]] if self.run else []
+        when = [begun.when for begun in self.run.begun[part.first]] if self.run else []
         return Shown(part, done, lines, names.said, subscripts, start, bits, when)
 
 
