@@ -4,7 +4,7 @@ them."""
 import re
 import typing
 
-from ..files.decode import CELLS, RAISED, Line
+from ..files.decode import CELLS, RAISED
 from ..files.fields import NAME_BYTES
 from ..files.program import BIT, REGISTERS, RESULT, SOURCE, SPILL, SPILLS, WORD
 from ..rules.answer import Breach
@@ -21,18 +21,13 @@ WORDS = ("n", "for", "in", "if", "else", "next", "program", "scratch", "entry", 
 KINDS = ("word", "bit")
 
 
-def line_text(line: Line) -> str:
-    """A wordline by its cell's name; `~` for the n-wordline."""
-    return f"{'~' if line.inverted else ''}{line.cell}"
-
-
 def address_text(address: int) -> str:
     """An address by its cells: one, two that are written together, or three whose majority is sensed."""
-    names = [line_text(line) for line in RAISED[address]]
+    names = list(map(str, RAISED[address]))
     return f"{{{', '.join(names)}}}" if len(names) == 3 else "+".join(names)
 
 
-BY_CELLS = {frozenset(map(line_text, lines)): address for address, lines in enumerate(RAISED)}
+BY_CELLS = {frozenset(map(str, lines)): address for address, lines in enumerate(RAISED)}
 SINGLES, PAIRS, TRIPLES = (", ".join(address_text(address) for address, lines in enumerate(RAISED) if len(lines) == count)
                            for count in (1, 2, 3))
 

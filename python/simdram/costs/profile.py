@@ -23,7 +23,7 @@ from ..rules.ops_rules import read_ops
 from ..steps.code_parts import Part, parts
 from ..steps.op_texts import OpText, of_entries
 from .costs import EntryCost, costs_at
-from .table_formats import as_csv
+from .table_formats import as_csv, as_text
 
 CSV_HEAD = ("name", "width", "kind", "what", "times", "aap", "ap", "commands", "share")
 
@@ -71,8 +71,7 @@ def cells_of(row: Row, whole: int, has_times: bool) -> list[str]:
 def table(head: list[str], rows: tuple[Row, ...], whole: int) -> list[str]:
     """Rows in columns: numbers to the right, and what they are of at the end."""
     cells = [head, *(cells_of(row, whole, "times" in head) for row in rows)]
-    widths = [max(map(len, column)) for column in zip(*cells)]
-    return ["  " + "  ".join([*(cell.rjust(width) for cell, width in zip(row[:-1], widths)), row[-1]]) for row in cells]
+    return [f"  {line}" for line in as_text(cells, len(head) - 1).splitlines()]
 
 
 def row_of(part: Part, times: list[int]) -> Row:

@@ -24,10 +24,13 @@ def as_csv(rows: Rows) -> str:
     return text.getvalue()
 
 
-def as_text(rows: Rows) -> str:
+def as_text(rows: Rows, to_right: int = 0) -> str:
+    """The table in columns, of which so many go to the right."""
     cells = texts(rows)
     widths = [max(map(len, column)) for column in zip(*cells)]
-    return "".join("  ".join(cell.ljust(width) for cell, width in zip(row, widths)).rstrip() + "\n" for row in cells)
+    for row in cells:
+        row[:] = [cell.rjust(width) if k < to_right else cell.ljust(width) for k, (cell, width) in enumerate(zip(row, widths))]
+    return "".join("  ".join(row).rstrip() + "\n" for row in cells)
 
 
 def are_numbers(cells: list[list[str]]) -> list[bool]:

@@ -17,6 +17,9 @@ class Line(typing.NamedTuple):
     cell: str
     inverted: bool = False
 
+    def __str__(self) -> str:
+        return f"{'~' if self.inverted else ''}{self.cell}"
+
 
 T0, T1, T2, T3 = map(Line, CELLS[:4])
 DCC0, DCC1 = map(Line, CELLS[4:])

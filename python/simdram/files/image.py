@@ -15,12 +15,12 @@ from .store import load, store
 MAGIC = b"SDMI"
 HEAD = struct.Struct("<4sHHHHH")
 RECORD = struct.Struct("<BHI")
-BANKS, ROWS, WORDS, ALL_WORDS = (1, 16), (64, 1006), (1, 1024), 2**23
+GEOMETRY, ALL_WORDS = {"banks": (1, 16), "rows": (64, 1006), "words": (1, 1024)}, 2**23
 OBJECTS, WIDTHS = 256, (1, 128)
 SPILL_ROWS = 32
 # the head of an image file and the greatest table
 HEAD_MAX = 14 + 24 * OBJECTS
-ROWS_MAX = ROWS[1]
+ROWS_MAX = GEOMETRY["rows"][1]
 
 
 @dataclasses.dataclass
@@ -44,7 +44,7 @@ class Object:
 
 def geometry_fault(banks: int, rows: int, words: int) -> str | None:
     """Why no chip has this geometry, or None where one can have it."""
-    for name, number, (least, most) in (("banks", banks, BANKS), ("rows", rows, ROWS), ("words", words, WORDS)):
+    for number, (name, (least, most)) in zip((banks, rows, words), GEOMETRY.items()):
         if not least <= number <= most:
             return f"a chip has {least} to {most} {name}, not {number}"
     if banks * rows * words > ALL_WORDS:
@@ -71,9 +71,7 @@ class Table:
         """The table that a file of this kind begins with, taken from its fields."""
         fields.magic(magic, kind)
         fields.within(2, 1, 1, "version", "the version")
-        banks = fields.within(2, *BANKS, "geometry", "the number of banks")
-        rows = fields.within(2, *ROWS, "geometry", "the number of rows")
-        words = fields.within(2, *WORDS, "geometry", "the number of words")
+        banks, rows, words = (fields.within(2, *limits, "geometry", f"the number of {name}") for name, limits in GEOMETRY.items())
         if wrong := geometry_fault(banks, rows, words):
             raise fields.fault("geometry", wrong)
         return Table(banks, rows, words, read_table(fields, banks, rows, words))

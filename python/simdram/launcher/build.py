@@ -67,8 +67,8 @@ def copy_program(work: pathlib.Path) -> None:
 
 def try_program(work: pathlib.Path, rt: str) -> subprocess.CompletedProcess:
     """Has rt compile the program and run it on the pipe."""
+    (work / "try").mkdir(parents=True)
     os.mkfifo(work / "pipe")
-    (work / "try").mkdir()
     threading.Thread(target=copy_program, args=(work,), daemon=True).start()
     return subprocess.run([rt, "try", "--", "show", str(work / "pipe")], cwd=home() / "crates" / "simdram",
                           env={**os.environ, "TMPDIR": str(work / "try")}, stdin=subprocess.DEVNULL, capture_output=True, check=False)
@@ -77,13 +77,11 @@ def try_program(work: pathlib.Path, rt: str) -> subprocess.CompletedProcess:
 def compiled(work: pathlib.Path) -> pathlib.Path:
     """The program, compiled in a folder: with optimization, else as `rt try` compiles it."""
     fast, slow = work / "fast", work / "slow"
-    fast.mkdir()
     if toolchain := fast_toolchain.made_in(fast / "toolchain"):
         try_program(fast, str(toolchain.rt))
         if (fast / "copy").exists() and toolchain.mark.exists():
             return fast / "copy"
     say("this toolchain does not compile with optimization: the program will be slow (some 50 times slower than the proved one)")
-    slow.mkdir()
     ended = try_program(slow, "rt")
     if not (slow / "copy").exists():
         sys.stderr.buffer.write(ended.stdout + ended.stderr)

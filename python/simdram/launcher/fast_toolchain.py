@@ -15,7 +15,7 @@ COMMAND = ("rt", "rtlib.py")
 
 def link_all(source: pathlib.Path, folder: pathlib.Path, but: tuple[str, ...]) -> None:
     """Makes a folder with a link to each file of another one, but for some names."""
-    folder.mkdir()
+    folder.mkdir(parents=True)
     for path in source.iterdir():
         if path.name not in but:
             (folder / path.name).symlink_to(path)

@@ -34,6 +34,7 @@ import typing
 
 from ..assembler.at_width import branch, choice, choices
 from ..assembler.text_lines import TextLines, text_lines
+from ..costs.table_formats import Rows, as_text
 from ..files.decode import CELLS
 from ..files.program import Entry, Program
 from ..launcher.faults import Fault
@@ -86,15 +87,12 @@ def table(done: list[Step], bits: list[dict[str, str]] | None = None) -> list[st
         bit = bits[k][name] if bits else "?"
         return value if bit in ("?", value) else f"{value}={bit}"
 
-    said = [{name: shown(name, value, k) for name, value in {**step.cells, **step.rows}.items()} for k, step in enumerate(done)]
-    width = max(len(step.text) for step in done)
-    columns = {cell: max(len(cell), *(len(one[cell]) for one in said)) for cell in CELLS}
-    lines = ["  ".join(["".ljust(width), *(cell.ljust(columns[cell]) for cell in CELLS), "rows"])]
-    for step, one in zip(done, said):
-        changed = ", ".join(f"{name} = {one[name]}" for name in step.rows if name in step.changed)
-        cells = (one[cell].ljust(columns[cell]) for cell in CELLS)
-        lines.append("  ".join([step.text.ljust(width), *cells, changed]).rstrip())
-    return lines
+    rows: Rows = [["", *CELLS, "rows"]]
+    for k, step in enumerate(done):
+        said = {name: shown(name, value, k) for name, value in {**step.cells, **step.rows}.items()}
+        changed = ", ".join(f"{name} = {said[name]}" for name in step.rows if name in step.changed)
+        rows.append([step.text, *(said[cell] for cell in CELLS), changed])
+    return as_text(rows).splitlines()
 
 
 def title_lines(part: Part) -> list[str]:
