@@ -37,21 +37,22 @@ class Loop(typing.NamedTuple):
 
 
 class Way(typing.NamedTuple):
-    """A way of a choice: from where to where, and what the register holds at the jump that asks for it."""
+    """A way of a choice: its first and last instruction, and what the register holds at the jump that asks for it."""
 
     first: int
-    past: int
+    last: int
     at: int
     register: int
     is_zero: bool
 
-    @property
-    def last(self) -> int:
-        return self.past - 1
-
     def said(self, _: int) -> str:
         """When it is taken."""
         return f"if r{self.register} {'=' if self.is_zero else '>'} 0 at {self.at}"
+
+
+def around(found: typing.Iterable[typing.Any], first: int, past: int) -> list[typing.Any]:
+    """The loops or ways around instructions, the outermost first."""
+    return sorted((one for one in found if one.first <= first and past <= one.last + 1), key=lambda one: (one.first, -one.last))
 
 
 class Outline(typing.NamedTuple):
@@ -61,9 +62,7 @@ class Outline(typing.NamedTuple):
     ways: tuple[Way, ...]
 
     def around(self, first: int, past: int) -> list[Loop]:
-        """The loops around instructions, the outermost first."""
-        found = [one for one in self.loops if one.first <= first and past <= one.last + 1]
-        return sorted(found, key=lambda one: (one.first, -one.last))
+        return around(self.loops, first, past)
 
     def apart(self, at: int, place: int) -> str:
         """The innermost loop or way that is around an instruction and not around another, in words."""
@@ -72,8 +71,7 @@ class Outline(typing.NamedTuple):
 
     def said(self, first: int, past: int) -> list[str]:
         """The loops and the ways around instructions in words, the outermost first."""
-        found: list[Loop | Way] = [*self.around(first, past), *(one for one in self.ways if one.first <= first and past <= one.past)]
-        return [one.said(first) for one in sorted(found, key=lambda one: (one.first, -one.last))]
+        return [one.said(first) for one in around((*self.loops, *self.ways), first, past)]
 
 
 class Asked(typing.NamedTuple):
@@ -141,8 +139,8 @@ def outline(code: Code) -> Outline:
         if inner and (one.past > inner[1] or is_of_rounds(code, one, inner)):
             leaving[inner].append(one)
         elif not (one.is_bare and (one.to, jumps.led_to(one.past)) in whole):
-            ways += [Way(one.at + 1, one.to, one.at, one.register, True)] * (not one.is_bare)
-            ways += [Way(one.to, one.past, one.at, one.register, False)] * (one.past > one.to)
+            ways += [Way(one.at + 1, one.to - 1, one.at, one.register, True)] * (not one.is_bare)
+            ways += [Way(one.to, one.past - 1, one.at, one.register, False)] * (one.past > one.to)
     return Outline(tuple(loop_of(code, span, leaving[span]) for span in spans), tuple(ways))
 
 

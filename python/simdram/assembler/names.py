@@ -68,12 +68,10 @@ class Names:
     """The rows that a program may name."""
 
     def __init__(self, head: Head) -> None:
-        self.head, self.known = head, {}
-        for space, kinds in ((SOURCE, head.sources), (RESULT, head.results)):
-            for which, (name, kind) in enumerate(kinds.items()):
-                self.known[name] = Named(space, which, kind)
-        for space, kind, names in ((BIT, "bit", head.bits), (WORD, "word", head.words)):
-            self.known.update({name: Named(space, which, kind) for which, name in enumerate(names)})
+        names = {SOURCE: head.sources, RESULT: head.results, BIT: head.bits, WORD: head.words}
+        self.kinds = {SOURCE: list(head.sources.values()), RESULT: list(head.results.values()), BIT: ["bit"] * len(head.bits),
+                      WORD: ["word"] * len(head.words), SPILL: ["bit"] * SPILLS}
+        self.known = {name: Named(space, which, self.kinds[space][which]) for space in names for which, name in enumerate(names[space])}
 
     def find(self, token: Token) -> Named:
         """What a name means: an operand, scratch, or a row by its name in a listing."""
@@ -83,11 +81,9 @@ class Names:
             raise Breach(token, "name", f"there is no row `{token.text}`", f"the rows are {self.said()}, and the cells "
                             f"{', '.join(CELLS)}", "scratch is declared below the head, as `scratch c: bit, w: word`")
         space, which = place
-        kinds = {SOURCE: list(self.head.sources.values()), RESULT: list(self.head.results.values()),
-                 BIT: ["bit"] * len(self.head.bits), WORD: ["word"] * len(self.head.words), SPILL: ["bit"] * SPILLS}[space]
-        if which >= len(kinds):
+        if which >= len(self.kinds[space]):
             raise Breach(token, "name", f"there is no row `{token.text}`", f"the rows are {self.said()}")
-        return Named(space, which, kinds[which])
+        return Named(space, which, self.kinds[space][which])
 
     def said(self) -> str:
         return ", ".join(f"{name} ({one.kind})" for name, one in self.known.items())

@@ -1,5 +1,7 @@
 """Names of a microprogram's rows: the designer's where the operation text is given, and else a, b, y, t0, w0."""
 
+import typing
+
 from ..files.decode import CELLS
 from ..files.program import BIT, INDEXED, RESULT, SOURCE, WORD, Row
 from ..rules.op_tree import OpShape, StatementShape
@@ -14,21 +16,14 @@ class RowNames:
     """The names of rows by their spaces and places: those of an op, and of its scratch if that is told."""
 
     def __init__(self, shape: OpShape | None, has_scratch: bool = True) -> None:
-        self.names: dict[tuple[int, int], str] = {}
+        named: list[tuple[int, typing.Iterable[str]]] = [(RESULT, "yz"), (SOURCE, "abcd")]
         self.bits: set[str] = set()
-        self.put(RESULT, "yz")
-        self.put(SOURCE, "abcd")
         if shape:
-            self.put(SOURCE, shape.sources)
-            self.put(RESULT, shape.results)
-            for space, kind in ((BIT, "bit"), (WORD, "word")) if has_scratch else ():
-                self.put(space, shape.scratch(kind))
+            named += [(SOURCE, shape.sources), (RESULT, shape.results)]
+            named += [(BIT, shape.scratch("bit")), (WORD, shape.scratch("word"))] if has_scratch else []
             kinds = {**shape.sources, **shape.results, **shape.defined}
             self.bits = {name for name, kind in kinds.items() if kind == "bit"}
-
-    def put(self, space: int, names) -> None:
-        for which, name in enumerate(names):
-            self.names[space, which] = name
+        self.names = {(space, which): name for space, names in named for which, name in enumerate(names)}
 
     def base(self, row: Row) -> str:
         """A row's name without its subscript; a plain one that the designer gave to another row gets a stroke."""
