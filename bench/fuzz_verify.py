@@ -31,7 +31,7 @@ from columns import run, sources_of  # noqa: E402
 from simdram.assembler import assemble  # noqa: E402
 from simdram.assembler.walks import walk  # noqa: E402
 from simdram.launcher.faults import FileFault  # noqa: E402
-from simdram.files.program import AP, AAP, BIT, BNEZ, B_ADDRESS, C_ADDRESS, RESULT, SPILL, WORD  # noqa: E402
+from simdram.files.program import AP, AAP, BIT, BNEZ, B_ADDRESS, C_ADDRESS, DONE, RESULT, SETI, SPILL, WORD  # noqa: E402
 from simdram.files.program import Instruction, Program, Row  # noqa: E402
 from simdram.rules.verdicts import BAD_WALK, RIGHT, WRONG, verdict_of  # noqa: E402
 
@@ -81,10 +81,10 @@ def mutated(entry, maker):
     if change == 0:
         commands = [k for k, one in enumerate(code) if one.rows]
         at = maker.choice(commands)
-        rows = code[at].rows
+        rows = list(code[at].rows)
         other = maker.choice(code[maker.choice(commands)].rows)
         rows[maker.randrange(len(rows))] = maker.choice((Row(B_ADDRESS, maker.randrange(16), 0), other))
-        code[at] = Instruction(code[at].kind, bytes([code[at].kind, *(byte for row in rows for byte in row)]).ljust(8, b"\0"))
+        code[at] = command(*rows)
     elif change == 1:
         del code[at]
     elif change == 2:
@@ -109,7 +109,7 @@ def changed(entry, maker):
 def moved_jump(one, at, shift):
     """A jump that still leads to its instruction, where one before it was taken out or put in."""
     number = one.number + (shift if one.number > at else 0)
-    return Instruction(BNEZ, bytes([BNEZ, one.register]) + number.to_bytes(2, "little") + bytes(4))
+    return dataclasses.replace(one, number=number)
 
 
 def check_right(entry, made, n, verdict, maker):
@@ -126,8 +126,7 @@ def check_right(entry, made, n, verdict, maker):
 
 def command(*rows):
     """A row command."""
-    kind = AAP if len(rows) == 2 else AP
-    return Instruction(kind, bytes([kind, *(byte for row in rows for byte in row)]).ljust(8, b"\0"))
+    return Instruction(AAP if len(rows) == 2 else AP, rows=rows)
 
 
 def starter(entry, start):
@@ -142,15 +141,15 @@ def starter(entry, start):
         if match["cell"]:
             row = Row(B_ADDRESS, {"DCC0": 4, "DCC1": 6}.get(match["cell"]) or int(match["cell"][1:]), 0)
         elif match["result"]:
-            code.append(Instruction(1, bytes([1, 0, int(match["row"] or 0), 0]).ljust(8, b"\0")))
+            code.append(Instruction(SETI, 0, int(match["row"] or 0)))
             row = Row(RESULT, "yz".index(match["result"]), 0)
         elif match["word"]:
-            code.append(Instruction(1, bytes([1, 0, int(match["at"]), 0]).ljust(8, b"\0")))
+            code.append(Instruction(SETI, 0, int(match["at"])))
             row = Row(WORD, int(match["word"]), 0)
         else:
             row = Row(BIT, int(match["bit"]), 0) if match["bit"] else Row(SPILL, int(match["spill"]), 0)
         code.append(command(Row(C_ADDRESS, 1, 0), row))
-    return dataclasses.replace(entry, name="start_here", code=(*code, Instruction(0, bytes(8))))
+    return dataclasses.replace(entry, name="start_here", code=(*code, Instruction(DONE)))
 
 
 def check_wrong(runs, entry, made, n, verdict):

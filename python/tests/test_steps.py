@@ -13,7 +13,7 @@ from support import TOP, needs_program, op_text
 from test_profile import every_op
 from test_words import called
 
-from simdram.files.program import BNEZ, SETI, Entry, Instruction, Program
+from simdram.files.program import BNEZ, DONE, SETI, Entry, Instruction, Program
 from simdram.launcher.faults import Fault
 from simdram.steps.iterations import execution
 from simdram.steps.one_column import Column, numbers_of
@@ -255,7 +255,7 @@ class Pages(unittest.TestCase):
             numbers_of("a=1,b=2", ["a", "b"], ["word", "bit"], 8)
 
     def test_an_endless_loop_ends(self):
-        code = tuple(Instruction(raw[0], bytes(raw)) for raw in ([SETI, 1, 1] + [0] * 5, [BNEZ, 1] + [0] * 6, [0] * 8))
+        code = (Instruction(SETI, 1, 1), Instruction(BNEZ, 1, 0), Instruction(DONE))
         with self.assertRaisesRegex(Fault, "executes over 1,000,000 instructions at the width 8"):
             Column(Entry("f", ("word",), ("word",), 0, 0, code), 8, [3]).run()
 

@@ -2,6 +2,7 @@
 them; or they are stuck at all others, as the assembler writes programs of `width 8`."""
 
 import dataclasses
+import itertools
 import typing
 
 from ..files.program import AAP, AP, BNEZ, DONE, LARGEST, SETI, SETN, SUBI, Entry, Instruction
@@ -11,7 +12,6 @@ TEST, BETWEEN = 8, 2
 # how many instructions stand before the own ones of a program for one width, and how many after them
 BEFORE, AFTER = 3, 2
 NO_JUMPS = (SETI, AAP, AP, DONE)
-made = Instruction.of
 
 
 class Choice(typing.NamedTuple):
@@ -24,13 +24,13 @@ class Choice(typing.NamedTuple):
 
 def test(n: int, other: int) -> tuple[Instruction, ...]:
     """The test of the width n, which goes to a place where it is another."""
-    return (made(SETN, 0), made(SETI, 1, n), made(BNEZ, 0, 4), made(BNEZ, 1, other), made(SUBI, 0, 1), made(SUBI, 1, 1), made(BNEZ, 1, 2),
-            made(BNEZ, 0, other))
+    return tuple(itertools.starmap(Instruction, ((SETN, 0), (SETI, 1, n), (BNEZ, 0, 4), (BNEZ, 1, other), (SUBI, 0, 1), (SUBI, 1, 1),
+                                                 (BNEZ, 1, 2), (BNEZ, 0, other))))
 
 
 def earlier(code: typing.Iterable[Instruction], by: int) -> tuple[Instruction, ...]:
     """Instructions before which so many others are left out: each jump leads to an earlier place."""
-    return tuple(made(BNEZ, one.register, one.number - by) if one.kind == BNEZ else one for one in code)
+    return tuple(Instruction(BNEZ, one.register, one.number - by) if one.kind == BNEZ else one for one in code)
 
 
 def choice(entry: Entry) -> Choice | None:
@@ -39,7 +39,7 @@ def choice(entry: Entry) -> Choice | None:
         return None
     n, other = entry.code[1].number, entry.code[3].number
     own, line = other + BETWEEN, entry.code[TEST:other]
-    begins = entry.code[:TEST] == test(n, other) and entry.code[other:own] == (made(SETI, 0), made(SETI, 1))
+    begins = entry.code[:TEST] == test(n, other) and entry.code[other:own] == (Instruction(SETI, 0), Instruction(SETI, 1))
     if not begins or not line or line[-1].kind != DONE or any(one.kind not in NO_JUMPS for one in line):
         return None
     rest = entry.code[own:]

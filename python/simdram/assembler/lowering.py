@@ -331,7 +331,7 @@ def target(one: Out, labels: dict[str, int], size: int) -> int:
 
 def encoded(one: Out, labels: dict[str, int], size: int) -> Instruction:
     number = target(one, labels, size) if one.kind == BNEZ else one.number
-    return Instruction.of(one.kind, one.register, number, one.other, one.rows)
+    return Instruction(one.kind, one.register, number, one.other, one.rows)
 
 
 def entry_of(head: Head, made: Lowering) -> Entry:

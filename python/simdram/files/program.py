@@ -47,39 +47,31 @@ class Row(typing.NamedTuple):
 
 @dataclasses.dataclass(frozen=True)
 class Instruction:
-    """An instruction: its kind and its eight bytes."""
+    """An instruction: its kind, its register, the number or the target of bytes 2 and 3, the other register of byte 2, and its one or
+    two rows where it is a command."""
 
     kind: int
-    raw: bytes
+    register: int = 0
+    number: int = 0
+    other: int = 0
+    rows: tuple[Row, ...] = ()
 
     @classmethod
-    def of(cls, kind: int, register: int = 0, number: int = 0, other: int = 0, rows: typing.Sequence[Row] = ()) -> "Instruction":
-        """An instruction of these operands."""
-        second = bytes([other]) if "s" in OPERANDS[kind] else number.to_bytes(2, "little")
-        operands = b"".join(map(bytes, rows)) if rows else bytes([register]) + second
-        return cls(kind, (bytes([kind]) + operands).ljust(8, b"\0"))
+    def read(cls, raw: bytes) -> "Instruction":
+        """The instruction of eight bytes."""
+        operands = OPERANDS[raw[0]]
+        if "x" in operands:
+            return cls(raw[0], rows=tuple(Row(*raw[at:at + 3]) for at in (1, 4)[:len(operands)]))
+        return cls(raw[0], raw[1], *((0, raw[2]) if "s" in operands else (raw[2] | raw[3] << 8, 0)))
+
+    def file(self) -> bytes:
+        second = bytes([self.other]) if "s" in OPERANDS[self.kind] else self.number.to_bytes(2, "little")
+        operands = b"".join(map(bytes, self.rows)) or bytes([self.register]) + second
+        return (bytes([self.kind]) + operands).ljust(8, b"\0")
 
     @property
     def name(self) -> str:
         return NAMES[self.kind]
-
-    @property
-    def rows(self) -> list[Row]:
-        """Its one or two rows where it is a command."""
-        return [Row(*self.raw[at:at + 3]) for at in (1, 4)][:{AAP: 2, AP: 1}.get(self.kind, 0)]
-
-    @property
-    def register(self) -> int:
-        return self.raw[1]
-
-    @property
-    def other(self) -> int:
-        return self.raw[2]
-
-    @property
-    def number(self) -> int:
-        """The number, or the target, of bytes 2 and 3."""
-        return self.raw[2] | self.raw[3] << 8
 
     def text(self, row_text: typing.Callable[[Row], str], target_text: typing.Callable[[int], str]) -> str:
         """Its text, with names for its rows and for where it jumps."""
@@ -143,7 +135,7 @@ class Program:
             shape = bytes([len(entry.sources), entry.kinds, entry.bits, entry.words])
             head += name_field(entry.name) + shape + start.to_bytes(4, "little") + len(entry.code).to_bytes(2, "little")
             start += len(entry.code)
-        return head + b"".join(one.raw for entry in self.entries for one in entry.code)
+        return head + b"".join(one.file() for entry in self.entries for one in entry.code)
 
     def find(self, name: str) -> Entry:
         for entry in self.entries:
@@ -194,13 +186,13 @@ def read_instruction(fields: Fields, head: Entry, count: int, at: int) -> Instru
     where = f"instruction {at} of {head.name}"
     if raw[0] >= len(NAMES):
         raise fields.fault("instruction", f"{where} is of kind {raw[0]}")
-    one = Instruction(raw[0], raw)
-    for word, wrong in faults_of(one, head, count, at):
+    one = Instruction.read(raw)
+    for word, wrong in faults_of(one, raw, head, count, at):
         raise fields.fault(word, f"{where}{wrong}")
     return one
 
 
-def faults_of(one: Instruction, head: Entry, count: int, at: int) -> typing.Iterator[tuple[str, str]]:
+def faults_of(one: Instruction, raw: bytes, head: Entry, count: int, at: int) -> typing.Iterator[tuple[str, str]]:
     """What is wrong with an instruction: registers, number and unnamed bytes, target, rows, and that it is the last."""
     operands = OPERANDS[one.kind]
     for letter, register in (("r", one.register), ("s", one.other)):
@@ -208,9 +200,9 @@ def faults_of(one: Instruction, head: Entry, count: int, at: int) -> typing.Iter
             yield "instruction", f", {one.name}, names register {register}; registers are 0 to {REGISTERS - 1}"
     if "k" in operands and one.number > LARGEST:
         yield "instruction", f", {one.name}, has the number {one.number}; numbers are 0 to {LARGEST}"
-    for spare in range(NAMED[one.kind], len(one.raw)):
-        if one.raw[spare]:
-            yield "instruction", f", {one.name}, has {one.raw[spare]} in byte {spare}, which is not named there and has to be 0"
+    for spare in range(NAMED[one.kind], len(raw)):
+        if raw[spare]:
+            yield "instruction", f", {one.name}, has {raw[spare]} in byte {spare}, which is not named there and has to be 0"
     if one.kind == BNEZ and one.number >= count:
         yield "target", f" jumps to {one.number}, and the entry has {count} instructions"
     for wrong in faults_of_rows(one.rows, head):
@@ -219,7 +211,7 @@ def faults_of(one: Instruction, head: Entry, count: int, at: int) -> typing.Iter
         yield "no_done", " is the last and not DONE"
 
 
-def faults_of_rows(rows: list[Row], head: Entry) -> typing.Iterator[str]:
+def faults_of_rows(rows: typing.Sequence[Row], head: Entry) -> typing.Iterator[str]:
     """What is wrong with the rows of a command, first with each by itself, then with where it stands."""
     for number, row in enumerate(rows, 1):
         if wrong := wrong_row(row, head):

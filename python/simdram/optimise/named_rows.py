@@ -36,8 +36,8 @@ def with_fewer_rows(entry: Entry, widths: typing.Iterable[int] = WIDTHS) -> Entr
         kept[WORD] = list(range(entry.words))
 
     def renamed(one: Instruction) -> Instruction:
-        rows = [row._replace(which=kept[row.space].index(row.which)) if row.space in kept else row for row in one.rows]
-        return Instruction.of(one.kind, rows=rows) if rows else one
+        return dataclasses.replace(one, rows=tuple(row._replace(which=kept[row.space].index(row.which)) if row.space in kept else row
+                                                   for row in one.rows))
 
     return dataclasses.replace(entry, bits=len(kept[BIT]), words=len(kept[WORD]), code=tuple(map(renamed, entry.code)))
 
