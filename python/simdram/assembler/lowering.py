@@ -1,6 +1,7 @@
 """From statements to an entry: loops, choices and subscripts become instructions on registers, and labels places."""
 
 import contextlib
+import dataclasses
 import typing
 
 from ..files.program import ADD, ADDI, BNEZ, CODE, DONE, LARGEST, MOV, REGISTERS, SETI, SETN, SETT, SUBI, Entry, Instruction, Row
@@ -69,11 +70,11 @@ class Lowering:
             self.statement(one)
             for form in (form for form in spans if last[form] == k):
                 self.free(self.held.pop(form))
-        if not self.code or self.code[-1].kind != DONE or len(self.code) in self.labels.values():
+        if not self.code or self.code[-1].made.kind != DONE or len(self.code) in self.labels.values():
             self.emit(DONE)
         if stuck is not None:
             self.place(WRONG_WIDTH)
-            self.emit(SUBI, stuck, number=LARGEST)
+            self.emit(SUBI, stuck, LARGEST)
             self.emit(DONE)
         return self
 
@@ -84,9 +85,9 @@ class Lowering:
             return None
         register = self.take(self.token, "the width")
         self.emit(SETN, register)
-        self.emit(SUBI, register, number=self.program.head.width)
+        self.emit(SUBI, register, self.program.head.width)
         self.labels[WRONG_WIDTH] = -1
-        self.emit(BNEZ, register, number=WRONG_WIDTH)
+        self.branch(register, WRONG_WIDTH)
         self.free(register)
         return register
 
@@ -104,8 +105,11 @@ class Lowering:
     def free(self, register: int) -> None:
         del self.holds[register]
 
-    def emit(self, kind: int, register: int = 0, other: int = 0, number: int | str = 0, rows: tuple[Row, ...] = ()) -> None:
-        self.code.append(Out(self.token, kind, register, other, number, rows))
+    def emit(self, kind: int, register: int = 0, number: int = 0, other: int = 0, rows: tuple[Row, ...] = ()) -> None:
+        self.code.append(Out(self.token, Instruction(kind, register, number, other, rows)))
+
+    def branch(self, register: int, label: str) -> None:
+        self.code.append(Out(self.token, Instruction(BNEZ, register), label))
 
     def new_label(self) -> str:
         """A label that no text can name; it is placed later."""
@@ -162,40 +166,40 @@ class Lowering:
             raise Breach(one.target, "register", "a jump to a number leads where no label shows what registers hold")
         if (register := one.register) is None:
             register = self.take(one.token, "a jump")
-            self.emit(SETI, register, number=1)
+            self.emit(SETI, register, 1)
             self.free(register)
         self.token = one.target
-        self.emit(BNEZ, register, number=one.target.text)
+        self.branch(register, one.target.text)
 
     def leave(self, register: int, end: str) -> None:
         """Leads to a place where a register is zero, which is then used no more."""
         more = self.new_label()
-        self.emit(BNEZ, register, number=more)
-        self.emit(SETI, register, number=1)
-        self.emit(BNEZ, register, number=end)
+        self.branch(register, more)
+        self.emit(SETI, register, 1)
+        self.branch(register, end)
         self.place(more)
 
     def add(self, register: int, number: int) -> None:
         if abs(number) > LARGEST:
             raise Breach(self.token, "number", f"{number} is added here", f"registers hold 0 to {LARGEST}")
         if number:
-            self.emit(ADDI if number > 0 else SUBI, register, number=abs(number))
+            self.emit(ADDI if number > 0 else SUBI, register, abs(number))
 
     def load(self, register: int, form: Form) -> None:
         """Sets a register to a form, by one that holds it but for a number, or from n."""
         near = next((held for held in self.held if held.terms == form.terms and form.variables), None)
         if near is not None:
-            self.emit(MOV, register, self.held[near])
+            self.emit(MOV, register, other=self.held[near])
             self.add(register, form.number - near.number)
         elif not form.terms and 0 <= form.number <= LARGEST:
-            self.emit(SETI, register, number=form.number)
+            self.emit(SETI, register, form.number)
         elif form.terms == ((N, 1),) and form.number < 0:
             self.emit(SETT, register)
             self.add(register, form.number + 1)
         elif form.terms in (((N, 1),), ((N, 2),)):
             self.emit(SETN, register)
             if form.terms == ((N, 2),):
-                self.emit(ADD, register, register)
+                self.emit(ADD, register, other=register)
             self.add(register, form.number)
         else:
             raise Breach(self.token, "number", f"no register can be set to {form}", "registers hold 0 to 1023, n, and what "
@@ -229,7 +233,7 @@ class Lowering:
         self.token = loop.token
         self.step(frame, 1)
         self.count_down(frame)
-        self.emit(BNEZ, count, number=body)
+        self.branch(count, body)
         self.place(end)
         self.frames.pop()
         self.around.pop()
@@ -245,7 +249,7 @@ class Lowering:
         self.load(count, loop.count + below)
         for _ in range(below):
             self.leave(count, end)
-            self.emit(SUBI, count, number=1)
+            self.emit(SUBI, count, 1)
         if fewest <= 0:
             self.leave(count, end)
 
@@ -258,9 +262,9 @@ class Lowering:
     def count_down(self, frame: Frame) -> None:
         """The positions of an iteration are taken from the count, which may end among them."""
         for _ in range(frame.loop.step - 1):
-            self.emit(SUBI, frame.count, number=1)
+            self.emit(SUBI, frame.count, 1)
             self.leave(frame.count, frame.end)
-        self.emit(SUBI, frame.count, number=1)
+        self.emit(SUBI, frame.count, 1)
 
     def next(self, _one: Next) -> None:
         """The next iteration, in the middle of the body."""
@@ -274,14 +278,14 @@ class Lowering:
         """Takes a number from a register, one by one, and leads to a place where that cannot be done."""
         left = self.take(self.token, "an `if`")
         again, more = self.new_label(), self.new_label()
-        self.emit(SETI, left, number=number)
+        self.emit(SETI, left, number)
         self.place(again)
-        self.emit(BNEZ, register, number=more)
-        self.emit(BNEZ, left, number=other)
+        self.branch(register, more)
+        self.branch(left, other)
         self.place(more)
-        self.emit(SUBI, register, number=1)
-        self.emit(SUBI, left, number=1)
-        self.emit(BNEZ, left, number=again)
+        self.emit(SUBI, register, 1)
+        self.emit(SUBI, left, 1)
+        self.branch(left, again)
         self.free(left)
 
     def choice(self, one: If) -> None:
@@ -292,14 +296,14 @@ class Lowering:
         self.load(register, form)
         if number is not None:
             self.compare(register, number, other if one.other else end)
-        self.emit(BNEZ, register, number=other if one.other else end)
+        self.branch(register, other if one.other else end)
         self.free(register)
         self.statements(one.zero)
         if one.other:
             self.token = one.token
             past = self.take(one.token, "an `if`")
-            self.emit(SETI, past, number=1)
-            self.emit(BNEZ, past, number=end)
+            self.emit(SETI, past, 1)
+            self.branch(past, end)
             self.free(past)
             self.place(other)
             self.around.append(one)
@@ -317,21 +321,16 @@ WRITERS: dict[type, typing.Callable[[Lowering, typing.Any], None]] = {
 
 def target(one: Out, labels: dict[str, int], size: int) -> int:
     """The instruction that a jump leads to."""
-    if one.token.kind == NUMBER and one.number == one.token.text:
+    if one.token.kind == NUMBER and one.label == one.token.text:
         if int(one.token.text) >= size:
             raise Breach(one.token, "target", f"there is no instruction {one.token.text}", f"the program has {size} instructions, 0 "
                             f"to {size - 1}")
         return int(one.token.text)
-    if one.number not in labels:
+    if one.label not in labels:
         known = ", ".join(name for name in labels if not name.startswith("."))
-        right = f"the labels are {known}" if known else f"a label is written as `{one.number}:` before an instruction"
-        raise Breach(one.token, "target", f"there is no label {one.number} in this program", right)
-    return labels[one.number]
-
-
-def encoded(one: Out, labels: dict[str, int], size: int) -> Instruction:
-    number = target(one, labels, size) if one.kind == BNEZ else one.number
-    return Instruction(one.kind, one.register, number, one.other, one.rows)
+        right = f"the labels are {known}" if known else f"a label is written as `{one.label}:` before an instruction"
+        raise Breach(one.token, "target", f"there is no label {one.label} in this program", right)
+    return labels[one.label]
 
 
 def entry_of(head: Head, made: Lowering) -> Entry:
@@ -340,5 +339,5 @@ def entry_of(head: Head, made: Lowering) -> Entry:
         raise Breach(head.token, "head", f"the program has {size} instructions", f"a program has at most {CODE[1]}")
     if said is not None and int(said.text) != size:
         raise Breach(said, "head", f"the program has {size} instructions", f"`code={size}`")
-    code = tuple(encoded(one, made.labels, size) for one in made.code)
+    code = tuple(dataclasses.replace(one.made, number=target(one, made.labels, size)) if one.label else one.made for one in made.code)
     return Entry(head.name, tuple(head.sources.values()), tuple(head.results.values()), len(head.bits), len(head.words), code)

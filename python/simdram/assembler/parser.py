@@ -2,7 +2,7 @@
 
 import typing
 
-from ..files.program import AAP, AP, BNEZ, ENTRIES, LARGEST, NAMES as INSTRUCTIONS, OPERANDS
+from ..files.program import AAP, AP, BNEZ, ENTRIES, LARGEST, NAMES as INSTRUCTIONS, OPERANDS, Instruction
 from ..rules.answer import Breach
 from ..rules.tokens import END, NAME, NUMBER, Token, said
 from .heads import read_entry, read_head
@@ -12,6 +12,8 @@ from .rows import check_places, read_form, read_row
 from .tree import Command, For, If, Jump, Label, Next, Numbered, Out, ProgramText, Text
 
 LONGEST_STEP = 128
+# what the operands of an instruction are called
+FIELDS = {"r": "register", "s": "other", "k": "number"}
 STATEMENTS = "an instruction, `for`, `if`, `next`, `JMP` or a label"
 
 
@@ -155,16 +157,11 @@ class Reader:
             register = read_register(self.tokens)
             self.tokens.took(",")
             return Jump(token, register, self.target())
-        made = Out(token, kind)
+        given = {}
         for operand in OPERANDS[kind]:
             self.tokens.took(",")
-            if operand == "r":
-                made.register = read_register(self.tokens)
-            elif operand == "s":
-                made.other = read_register(self.tokens)
-            else:
-                made.number = self.number()
-        return made
+            given[FIELDS[operand]] = self.number() if operand == "k" else read_register(self.tokens)
+        return Out(token, Instruction(kind, **given))
 
     def number(self) -> int:
         token = self.tokens.number("a number")

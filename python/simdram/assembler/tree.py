@@ -3,7 +3,7 @@
 import dataclasses
 import typing
 
-from ..files.program import Row
+from ..files.program import Instruction
 from ..rules.tokens import Token
 from .forms import Form
 
@@ -49,13 +49,10 @@ class Command(Statement):
 
 @dataclasses.dataclass
 class Out(Statement):
-    """An instruction, whose jump leads to a label yet: its kind, its registers, its number or target, and its rows."""
+    """An instruction, and the label that it jumps to, whose place it does not have yet."""
 
-    kind: int
-    register: int = 0
-    other: int = 0
-    number: int | str = 0
-    rows: tuple[Row, ...] = ()
+    made: Instruction
+    label: str = ""
 
 
 @dataclasses.dataclass
