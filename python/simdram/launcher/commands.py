@@ -67,10 +67,6 @@ class Command:
         """Whether the program itself does it."""
         return not self.module
 
-    def has_all(self, count: int) -> bool:
-        """Whether so many arguments may be all of the command's."""
-        return sum(not word.is_optional for word in self.words) <= count <= len(self.words)
-
     def usage(self) -> str:
         """The command line, with a name for each argument."""
         return self.form or " ".join([self.name, *(word.form for word in self.words), *(f"[{flag}]" for flag, _ in self.flags)])

@@ -64,14 +64,12 @@ def done(command: Command, program: str, words: list[str], flags: list[str], set
 
 
 def launch(words: list[str], settings: Settings) -> int:
-    command = ALL.get(words[0]) if words else None
-    flags = [word for word in words[1:] if word in dict(command.flags)] if command else []
-    is_whole = command is not None and command.is_program and command.has_all(len(words) - 1 - len(flags))
-    refusal = overwrite.refusal(command, words[1:]) if is_whole and not settings.force else None
     if wrong := wrong_words(words):
         return refused_words(wrong, words, settings)
+    command = ALL[words[0]]
+    flags = [word for word in words[1:] if word in dict(command.flags)]
     words = [word for word in words if word not in flags]
-    if refusal:
+    if not settings.force and (refusal := overwrite.refusal(command, words[1:])):
         say(refusal)
         return WRONG
     tell_unread(command, words[1:])
