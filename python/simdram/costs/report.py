@@ -49,7 +49,7 @@ def in_banks(found: dict, script: Script, table: Table) -> None:
     if one.verb not in ("bbop", "bbop_trsp_init") or found["status"] != "ok":
         return
     count = one.number(0)
-    banks = -(-count // (64 * table.words))
+    banks = table.banks_of(count)
     found.update(elements=count, banks=banks, aap_per_bank=found["aap"] // banks, ap_per_bank=found["ap"] // banks,
                  commands_per_element=(found["aap"] + found["ap"]) / count)
 

@@ -66,8 +66,7 @@ def add(image: Image, word: str) -> None:
 def show(image: Image) -> typing.Iterator[str]:
     yield f"{image.banks} banks of {image.rows} rows of {image.words} words: {image.columns} columns a bank"
     for one in image.objects:
-        segments = -(-one.count // image.columns)
-        rows = f"rows {one.base} to {one.past - 1} of {segments} banks"
+        rows = f"rows {one.base} to {one.past - 1} of {image.banks_of(one.count)} banks"
         yield f"{one.name}: {one.count} elements of {one.width} bits, {rows}"
 
 
@@ -99,21 +98,20 @@ def put(path: str, name: str, file: str) -> bytes:
 
 
 def main(words: typing.Sequence[str], settings: Settings) -> int:
-    if {"--help", "-h"} & set(words[:2]):
-        print(about("files.image_tool").rstrip())
-    else:
-        verb, rest = (words[0], list(words[1:])) if words else ("", [])
-        if verb == "make" and len(rest) >= 2:
-            image = make(rest[1], rest[2:])
-            write(rest[0], image.file(), "image", settings)
-        elif verb == "show" and len(rest) == 1:
-            print("\n".join(show(Image.load(rest[0]))))
-        elif verb == "get" and len(rest) == 2:
-            sys.stdout.write(get(rest[0], rest[1], "").decode())
-        elif verb == "get" and len(rest) == 3:
-            write(rest[2], get(*rest), "numbers", settings)
-        elif verb == "put" and len(rest) == 3:
-            write(rest[0], put(*rest), "image", settings)
-        else:
-            raise WordsFault("\n".join(["these words are none of", *map(str.strip, about("files.image_tool").split("\n\n")[1].splitlines())]))
+    match list(words):
+        case ["--help" | "-h", *_] | [_, "--help" | "-h", *_]:
+            print(about("files.image_tool").rstrip())
+        case ["make", out, geometry, *objects]:
+            write(out, make(geometry, objects).file(), "image", settings)
+        case ["show", path]:
+            print("\n".join(show(Image.load(path))))
+        case ["get", path, name]:
+            sys.stdout.write(get(path, name, "").decode())
+        case ["get", path, name, file]:
+            write(file, get(path, name, file), "numbers", settings)
+        case ["put", path, name, file]:
+            write(path, put(path, name, file), "image", settings)
+        case _:
+            forms = about("files.image_tool").split("\n\n")[1].splitlines()
+            raise WordsFault("\n".join(["these words are none of", *map(str.strip, forms)]))
     return 0

@@ -37,11 +37,6 @@ class Word:
     is_optional: bool = False
 
     @property
-    def form(self) -> str:
-        """The argument in a command line."""
-        return f"[{self.name}]" if self.is_optional else self.name
-
-    @property
     def is_file(self) -> bool:
         return self.kind in KINDS
 
@@ -69,7 +64,8 @@ class Command:
 
     def usage(self) -> str:
         """The command line, with a name for each argument."""
-        return self.form or " ".join([self.name, *(word.form for word in self.words), *(f"[{flag}]" for flag, _ in self.flags)])
+        words = (f"[{word.name}]" if word.is_optional else word.name for word in self.words)
+        return self.form or " ".join([self.name, *words, *(f"[{flag}]" for flag, _ in self.flags)])
 
 
 def tool(module: str, form: str, example: str) -> Command:

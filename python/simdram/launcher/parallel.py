@@ -28,18 +28,14 @@ class Bar:
         self.what, self.items, self.done = what, items, 0
         self.began = time.monotonic()
 
-    def line(self, seconds: float) -> str:
-        """What is shown after so many seconds."""
-        full = BAR * self.done // self.items
-        left = round(seconds * (self.items - self.done) / self.done) if self.done else 0
-        said = f", about {left} s left" if self.done and left else ""
-        return f"simdram: {self.what} [{'#' * full}{'.' * (BAR - full)}] {self.done} of {self.items}{said}"
-
     def step(self) -> None:
+        """One more item is done."""
         self.done += 1
         seconds = time.monotonic() - self.began
         if self.what and seconds > SHOWN_AFTER:
-            show(self.line(seconds))
+            full, left = BAR * self.done // self.items, round(seconds * (self.items - self.done) / self.done)
+            show(f"simdram: {self.what} [{'#' * full}{'.' * (BAR - full)}] {self.done} of {self.items}"
+                 f"{f', about {left} s left' if left else ''}")
 
     def end(self) -> None:
         if self.what:

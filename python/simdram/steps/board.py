@@ -2,12 +2,13 @@
 
 import typing
 
-from ..assembler.forms import Form
+from ..assembler.forms import N, Form
+from ..assembler.walks import Registers
 from ..files.decode import CELLS, RAISED
 from ..files.program import AAP, B_ADDRESS, C_ADDRESS, Instruction, Row
 from .cell_values import ALL, ONE, UNKNOWN, ZERO, Names, Value, complemented, majority, now_value, old_value, row_value
 from .code_parts import WIDEST, Part
-from .positions import Held, may_be_equal, of_rows, registers
+from .positions import Held, may_be_equal, of_rows
 from .row_names import RowNames
 
 LETTER = "i"
@@ -33,7 +34,7 @@ class Board:
     turned = staticmethod(complemented)
 
     def __init__(self, part: Part, rows: RowNames, names: Names, taken: dict[str, Value] | None = None, changing=()) -> None:
-        self.registers, self.letter = registers(part.held), letter(part.code, part.held)
+        self.registers, self.letter = Registers(Form.of(N), part.held), letter(part.code, part.held)
         self.cells = {**dict.fromkeys(CELLS, UNKNOWN), **(taken or {})}
         self.fresh, self.taken = set(CELLS), set()
         self.rows: dict[str, Value] = {}

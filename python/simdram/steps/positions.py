@@ -14,13 +14,8 @@ START: Held = (Form(),) * REGISTERS
 UNKNOWN: Held = tuple(Form.of(f"r{register}") for register in range(REGISTERS))
 
 
-def registers(held: Held) -> Registers:
-    """The registers where a part of the code begins."""
-    return Registers(Form.of(N), held)
-
-
 def after(code: typing.Iterable[Instruction], held: Held) -> Held:
-    there = registers(held)
+    there = Registers(Form.of(N), held)
     for one in code:
         there.do(one)
     return tuple(there.held)
@@ -28,7 +23,7 @@ def after(code: typing.Iterable[Instruction], held: Held) -> Held:
 
 def of_rows(code: typing.Iterable[Instruction], held: Held) -> list[Form]:
     """The position of each indexed row of instructions, in their order."""
-    there, found = registers(held), []
+    there, found = Registers(Form.of(N), held), []
     for one in code:
         found += [there.index(row) for row in one.rows if row.space in INDEXED]
         there.do(one)
