@@ -6,7 +6,7 @@ import typing
 
 from ..files.decode import CELLS, RAISED
 from ..files.fields import NAME_BYTES
-from ..files.program import BIT, REGISTERS, RESULT, SOURCE, SPILL, SPILLS, WORD
+from ..files.program import BIT, NAMES as INSTRUCTIONS, REGISTERS, RESULT, SOURCE, SPILL, SPILLS, WORD
 from ..rules.answer import Breach
 from ..rules.tokens import Token
 from .lexer import Tokens
@@ -16,8 +16,7 @@ REGISTER = re.compile("r([0-9]+)")
 LISTED = re.compile("([stwpBC])([0-9]+)")
 RESULTS = ("y", "z")
 SPACES = {"s": SOURCE, "t": BIT, "w": WORD, "p": SPILL}
-WORDS = ("n", "for", "in", "if", "else", "next", "program", "scratch", "entry", "version", "word", "bit",
-         "DONE", "SETI", "SETN", "SETT", "MOV", "ADD", "ADDI", "SUBI", "BNEZ", "AAP", "AP", "JMP")
+WORDS = ("n", "for", "in", "if", "else", "next", "program", "scratch", "entry", "version", "word", "bit", *INSTRUCTIONS, "JMP")
 KINDS = ("word", "bit")
 
 

@@ -43,18 +43,14 @@ OPERATORS: dict[type, typing.Callable[[Number, Number], Number]] = {
 }
 
 
-class Breach(Exception):
-    """What is wrong with a formula."""
-
-
 def tree_of(text: str) -> ast.expr:
     """The formula as a tree of Python's grammar."""
     if len(text) > LONGEST:
-        raise Breach(f"it has more than {LONGEST} characters")
+        raise SyntaxError(f"it has more than {LONGEST} characters")
     try:
         return ast.parse(text.strip().replace("^", "**"), mode="eval").body
     except (SyntaxError, ValueError, RecursionError, MemoryError):
-        raise Breach("an operator, an operand or a bracket is missing, and a product has a *") from None
+        raise SyntaxError("an operator, an operand or a bracket is missing, and a product has a *") from None
 
 
 def computed(node: ast.expr, text: str, n: int) -> Number:
@@ -70,14 +66,14 @@ def computed(node: ast.expr, text: str, n: int) -> Number:
     if isinstance(node, ast.Name) and node.id == "n":
         return n
     said = ast.get_source_segment(text, node) or text
-    raise Breach(f"{said} stands where a number, n, log2(..), ceil(..), floor(..) or a bracket is expected")
+    raise SyntaxError(f"{said} stands where a number, n, log2(..), ceil(..), floor(..) or a bracket is expected")
 
 
 def value(text: str, width: int) -> Number:
     try:
         found = computed(tree_of(text), text.strip().replace("^", "**"), width)
-    except Breach as breach:
-        raise Fault(f"{text!r} is no formula of n: {breach}") from None
+    except SyntaxError as wrong:
+        raise Fault(f"{text!r} is no formula of n: {wrong}") from None
     except ZeroDivisionError:
         raise Fault(f"{text!r} has no value at n = {width}: a division by 0") from None
     except (ArithmeticError, ValueError) as wrong:

@@ -133,11 +133,8 @@ def read_table(fields: Fields, banks: int, rows: int, words: int) -> list[Object
     return objects
 
 
-class NoObject(KeyError):
+class NoObject(LookupError):
     """No object of the table has this name."""
-
-    def __str__(self) -> str:
-        return str(self.args[0])
 
 
 class NoRoom(ValueError):
@@ -149,11 +146,7 @@ class NoRoom(ValueError):
 
 
 class OutOfRange(ValueError):
-    """A number that does not fit an object: its place among the values, from 0, and why."""
-
-    def __init__(self, place: int, what: str) -> None:
-        super().__init__(what)
-        self.place = place
+    """A number that does not fit an object: its place among the values, and why."""
 
 
 class Image(Table):
@@ -255,6 +248,6 @@ def check_range(found: Object, values: typing.Sequence[int]) -> None:
         return
     place, value = next((k, value) for k, value in enumerate(values) if not 0 <= value < limit)
     if value < 0:
-        raise OutOfRange(place, f"value {place + 1} of {found.name} is {value}, and numbers below 0 are not kept; "
+        raise OutOfRange(f"value {place + 1} of {found.name} is {value}, and numbers below 0 are not kept; "
                          f"a number modulo 2^{found.width} is {value % limit}")
-    raise OutOfRange(place, f"value {place + 1} of {found.name} is {value}, and {found.width} bits hold 0 to {limit - 1}")
+    raise OutOfRange(f"value {place + 1} of {found.name} is {value}, and {found.width} bits hold 0 to {limit - 1}")

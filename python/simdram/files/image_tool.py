@@ -24,7 +24,7 @@ from ..launcher.faults import Fault, FileFault
 from ..launcher.overwrite import write
 from ..launcher.tool_parser import Settings, about
 from . import numbers
-from .image import Image, NoObject, NoRoom, OutOfRange
+from .image import Image, NoObject, NoRoom, Object, OutOfRange
 
 OBJECT = re.compile(r"([A-Za-z_][A-Za-z0-9_]{0,15}):(\d+)(?:=(-?\d+(?:,-?\d+)*),?|/(\d+))")
 
@@ -70,22 +70,24 @@ def show(image: Image) -> typing.Iterator[str]:
         yield f"{one.name}: {one.count} elements of {one.width} bits, {rows}"
 
 
-def get(path: str, name: str, file: str) -> bytes:
-    """The file of an object's numbers."""
+def opened(path: str, name: str) -> tuple[Image, Object]:
+    """An image, and its object of this name."""
     image = Image.load(path)
     try:
-        return numbers.file_of(name, *image.cells(name), file)
+        return image, image.find(name)
     except NoObject as fault:
         raise FileFault(path, "", "", str(fault)) from None
+
+
+def get(path: str, name: str, file: str) -> bytes:
+    """The file of an object's numbers."""
+    image, _ = opened(path, name)
+    return numbers.file_of(name, *image.cells(name), file)
 
 
 def put(path: str, name: str, file: str) -> bytes:
     """The image file with an object's elements set from a file of numbers."""
-    image = Image.load(path)
-    try:
-        found = image.find(name)
-    except NoObject as fault:
-        raise FileFault(path, "", "", str(fault)) from None
+    image, found = opened(path, name)
     values = numbers.read(file, found.width, found.count)
     if len(values) != found.count:
         raise FileFault(file, "", "count", f"it has {len(values)} numbers, and {name} of {path} has {found.count} "

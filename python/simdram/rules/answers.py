@@ -107,12 +107,9 @@ def stranger(table: Table) -> tuple[int, str] | None:
         if first.name[0] != "x" or len(first.name) < 2 or not (first.name[1].isalpha() or first.name[1] == "_"):
             return k, "the first copy of a guarded object, whose name begins with x"
         for place, letter in enumerate("yz", 1):
-            wanted = f"{letter}{first.name[1:]}, {first.count} elements of {first.width} bits"
-            if len(copies) < place:
-                return k + place, wanted
-            one = copies[place - 1]
-            if (one.name, one.width, one.count) != (letter + first.name[1:], first.width, first.count):
-                return k + place, wanted
+            name = letter + first.name[1:]
+            if [(one.name, one.width, one.count) for one in copies[place - 1:place]] != [(name, first.width, first.count)]:
+                return k + place, f"{name}, {first.count} elements of {first.width} bits"
     return None
 
 
