@@ -14,7 +14,6 @@ class Form(typing.NamedTuple):
 
     @classmethod
     def of(cls, name: str) -> "Form":
-        """A name alone."""
         return cls(0, ((name, 1),))
 
     def times(self, name: str) -> int:

@@ -127,7 +127,6 @@ class Jumps:
 
 
 def outline(code: Code) -> Outline:
-    """The loops and the ways of a code."""
     jumps, ways = Jumps(code), []
     spans = jumps.spans()
     # a jump past a whole loop says no more than that it may have no iteration

@@ -55,20 +55,18 @@ class Lowering:
     def whole(self) -> "Lowering":
         """The program. A subscript without loop variables has a register from the first statement that has it to the last;
         where there are labels, from the start to the end."""
-        body = self.program.body
-        spans: dict[Form, list[int]] = {}
-        stuck = self.check_width()
+        body, stuck = self.program.body, self.check_width()
+        has_labels = any(isinstance(one, Label) for one in body)
+        # from which statement to which each form has its register
+        spans: dict[Form, tuple[int, int]] = {}
         for k, one in enumerate(body):
             for form in needs_of([one], []).of([]) if not self.is_lean else ():
-                spans.setdefault(form, []).append(k)
-        jumps = any(isinstance(one, Label) for one in body)
-        first = {form: 0 if jumps else ks[0] for form, ks in spans.items()}
-        last = {form: len(body) if jumps else ks[-1] for form, ks in spans.items()}
+                spans[form] = (0, len(body)) if has_labels else (spans.get(form, (k, k))[0], k)
         for k, one in enumerate(body):
-            for form in (form for form in spans if first[form] == k):
+            for form in (form for form, (first, _) in spans.items() if first == k):
                 self.hold(form, form, one.token)
             self.statement(one)
-            for form in (form for form in spans if last[form] == k):
+            for form in (form for form, (_, last) in spans.items() if last == k):
                 self.free(self.held.pop(form))
         if not self.code or self.code[-1].made.kind != DONE or len(self.code) in self.labels.values():
             self.emit(DONE)

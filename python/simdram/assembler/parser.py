@@ -14,6 +14,7 @@ from .tree import Command, For, If, Jump, Label, Next, Numbered, Out, ProgramTex
 LONGEST_STEP = 128
 # what the operands of an instruction are called
 FIELDS = {"r": "register", "s": "other", "k": "number"}
+TARGET = "a label or a number"
 STATEMENTS = "an instruction, `for`, `if`, `next`, `JMP` or a label"
 
 
@@ -96,7 +97,7 @@ class Reader:
                 raise Breach(token, "loop", "`next` stands in no loop", "it stands in a loop's own body")
             body.append(Next(token))
         elif token.text == "JMP":
-            body.append(Jump(token, None, self.target()))
+            body.append(Jump(token, None, self.tokens.of_kind(TARGET, NAME, NUMBER)))
         elif token.text in INSTRUCTIONS:
             body.append(self.instruction(token, INSTRUCTIONS.index(token.text)))
         else:
@@ -156,7 +157,7 @@ class Reader:
         if kind == BNEZ:
             register = read_register(self.tokens)
             self.tokens.took(",")
-            return Jump(token, register, self.target())
+            return Jump(token, register, self.tokens.of_kind(TARGET, NAME, NUMBER))
         given = {}
         for operand in OPERANDS[kind]:
             self.tokens.took(",")
@@ -168,10 +169,6 @@ class Reader:
         if int(token.text) > LARGEST:
             raise Breach(token, "number", f"{token.text} is too great", f"a number is at most {LARGEST}")
         return int(token.text)
-
-    def target(self) -> Token:
-        """Where a jump leads: a label, or the number of an instruction."""
-        return self.tokens.of_kind("a label or a number", NAME, NUMBER)
 
 
 def goes_down(start, end) -> bool:

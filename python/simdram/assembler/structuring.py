@@ -87,7 +87,6 @@ class Structuring:
         return "0" if register == REGISTERS else str(self.held[register])
 
     def found(self, first: int, last: int) -> Loop:
-        """The loop between two places."""
         set_there, steps, depth = set(), {}, 0
         heads = {start: end for start, end in self.spans.items() if first < start <= end < last}
         for k in range(first, last):

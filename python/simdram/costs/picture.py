@@ -107,7 +107,6 @@ def element(name: str, text: str | None = None, **attributes) -> str:
 
 
 def axes(picture: Picture) -> typing.Iterator[str]:
-    """The two axes with their marks."""
     for y in picture.y.marks(8):
         at = picture.place(picture.x.first, y)[1]
         yield element("line", x1=LEFT, y1=at, x2=LEFT + WIDE, y2=at, stroke="#222" if y == picture.y.first else "#ddd")

@@ -128,7 +128,6 @@ def of_file(path: str, widths: list[int], settings: Settings, ops: str | None = 
 
 
 def csv_rows(one: Profile) -> typing.Iterator[list]:
-    """The rows of a profile under `CSV_HEAD`."""
     for kind, rows in (("statement", one.statements), ("part", one.parts)):
         for row in rows:
             share = row.commands / one.cost.commands if one.cost.commands else 0

@@ -103,10 +103,8 @@ def cell(found: dict, name: str) -> str:
 
 def text_of(report: str | None) -> str:
     """The text of a report, or of standard input."""
-    if report is None:
-        return load("/dev/stdin").decode("utf-8", "replace")
-    data = load(report)
-    if kind_of(data):
+    data = load(report or "/dev/stdin")
+    if report and kind_of(data):
         raise Fault(f"{report}: no report: it holds {content(data[:512])}")
     return data.decode("utf-8", "replace")
 

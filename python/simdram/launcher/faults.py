@@ -1,7 +1,5 @@
 """What ends a tool or the launcher early, or what a file module refuses: one line, and a status."""
 
-# the launcher's own status, where it cannot give the program
-NO_PROGRAM = 125
 # a tool's status where its words or a file are wrong
 WRONG = 2
 
@@ -13,9 +11,9 @@ class Fault(Exception):
 
 
 class NoProgram(Fault):
-    """There is no program to run."""
+    """There is no program to run. The status is the launcher's own."""
 
-    status = NO_PROGRAM
+    status = 125
 
 
 class FileFault(Fault):

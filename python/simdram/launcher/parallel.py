@@ -37,10 +37,6 @@ class Bar:
             show(f"simdram: {self.what} [{'#' * full}{'.' * (BAR - full)}] {self.done} of {self.items}"
                  f"{f', about {left} s left' if left else ''}")
 
-    def end(self) -> None:
-        if self.what:
-            show("")
-
 
 def in_parallel(work: typing.Callable[[Item], Result], items: typing.Sequence[Item], what: str = "",
                 stop: typing.Callable[[], None] = lambda: None) -> list[Result]:
@@ -62,5 +58,6 @@ def in_parallel(work: typing.Callable[[Item], Result], items: typing.Sequence[It
         raise
     finally:
         pool.shutdown()
-        bar.end()
+        if what:
+            show("")  # the bar's line is empty again
     return [found[k] for k in range(len(items))]

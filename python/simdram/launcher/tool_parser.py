@@ -49,7 +49,6 @@ def flag(name: str, help: str) -> Option:
 
 
 def parser_of(module: str, options: typing.Iterable[Option]) -> Parser:
-    """The parser of a tool by its module."""
     command = next(command for command in TOOLS if module.endswith(f".{command.module}"))
     made = Parser(prog=f"simdram {command.name}", description=about(command.module), formatter_class=argparse.RawDescriptionHelpFormatter)
     for one in options:

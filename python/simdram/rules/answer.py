@@ -56,7 +56,6 @@ class Breach(Exception):
                       shown if shown.strip() else "", (column, 1 if self.token.kind == STRANGER else len(self.token.text)))
 
     def fault(self, path: str, data: bytes) -> Fault:
-        """The fault as one line."""
         answer = self.answer(path, data)
         return Fault(f"{path} {answer.place}: {answer.kind}: {answer.rule}")
 

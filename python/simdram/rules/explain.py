@@ -80,8 +80,7 @@ def found_in(path: str, beside: dict, width: int, settings: Settings) -> list[An
     """What is wrong with a file, beside others; a width is 0 where none is named."""
     kind, data = loaded(path)
     check_beside(path, kind, beside, width)
-    fault = answers.first_fault(kind, path, data) if kind != "flips" else None
-    if fault:
+    if kind != "flips" and (fault := answers.first_fault(kind, path, data)):
         return [fault]
     table = Table.read(beside["image"][1], beside["image"][0]) if "image" in beside else None
     if kind == "flips":

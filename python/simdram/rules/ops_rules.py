@@ -56,7 +56,6 @@ class Reader:
         return token
 
     def unwanted(self, token: Token, wanted: str) -> Breach:
-        """The fault of a token that the grammar does not allow."""
         right = []
         if token.text == "[":
             right.append("widths are not in the text: an operation is for every width, and the instruction that calls it gives n")
@@ -338,7 +337,6 @@ def shapes_of(path: str, data: bytes) -> list[OpShape]:
 
 
 def op_shape(path: str, data: bytes, name: str) -> OpShape:
-    """What an operation text says of an op."""
     shapes = shapes_of(path, data)
     if (found := next((shape for shape in shapes if shape.name == name), None)) is None:
         raise Fault(f"{path} has no op {name}: it has {listed(shape.name for shape in shapes)}")

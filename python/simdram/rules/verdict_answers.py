@@ -80,7 +80,6 @@ def of_wrong(verdict: Verdict, shape: OpShape, entry: Entry, prog: str, n: int) 
 
 
 def of_stuck(verdict: Verdict, entry: Entry, prog: str, n: int) -> tuple[str, tuple[str, ...]]:
-    """Where a walk is stuck."""
     if other := other_width(entry, n):
         return f"at width {n} its walk cannot go on: {other}", (f"verify it at {one_width(entry)}",)
     text = f", `{entry.code[verdict.at]}`," if verdict.at < len(entry.code) else ""

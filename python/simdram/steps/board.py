@@ -106,7 +106,6 @@ class Board:
                 self.rows[other] = self.now(other)
 
     def settle(self, row: Row, value: typing.Any) -> None:
-        """Gives a value to the cells of a row."""
         if row.space != B_ADDRESS:
             self.put(self.name(row), value)
             return

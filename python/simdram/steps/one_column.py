@@ -72,7 +72,6 @@ class Column:
             self.cells[cell] = inverted(value, turned)
 
     def run(self) -> "Column":
-        """Executes the code."""
         at = 0
         while self.entry.code[at].kind != DONE:
             one = self.entry.code[at]

@@ -192,7 +192,5 @@ def main(asked: Asked) -> None:
     if asked.html:
         write(asked.html, page(asked.op, view.shown, said, run is not None).encode(), "page", asked.settings)
         return
-    for one in said:
-        print(one)
-    for one in view.shown:
-        print("\n".join(one.lines))
+    for line in [*said, *(line for one in view.shown for line in one.lines)]:
+        print(line)
