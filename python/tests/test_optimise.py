@@ -12,10 +12,10 @@ from test_words import called
 
 import simdram
 from simdram.assembler import assemble
-from simdram.assembler.at_width import branch, choice, choices, earlier, made, test
+from simdram.assembler.at_width import branch, choice, choices, earlier, test
 from simdram.assembler.reading import readable_lines
 from simdram.assembler.walks import walk
-from simdram.files.program import BNEZ, Entry, Program
+from simdram.files.program import BNEZ, Entry, Instruction, Program
 from simdram.optimise.named_rows import scratch, stays_in_words, with_fewer_rows
 from simdram.optimise.search import entries_of, is_made_of
 
@@ -63,7 +63,7 @@ class Optimised(unittest.TestCase):
         self.assertEqual((branch(new, 3), branch(new, 4), branch(new, None), branch(old, 3)), (found.here, old, old, old))
         self.assertIsNone(choice(old))
         for at in (0, 1, 3, 7):
-            code = (*new.code[:at], made(BNEZ, 2, 1), *new.code[at + 1:])
+            code = (*new.code[:at], Instruction(BNEZ, 2, 1), *new.code[at + 1:])
             self.assertIsNone(choice(Entry(new.name, new.sources, new.results, new.bits, new.words, code)))
 
     def test_the_text_has_an_if_and_assembles_to_the_same_commands(self):
