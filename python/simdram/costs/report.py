@@ -10,7 +10,6 @@ Banks work at the same time, so the time of a wave is that of the bank with the 
 
 import json
 import re
-import typing
 
 from ..files.image import HEAD_MAX, Table
 from ..files.store import load
@@ -29,23 +28,8 @@ TOTAL = re.compile(r"total aap=(\d+) ap=(\d+) writes=(\d+) reads=(\d+) refused=(
 COLUMNS = ("number", "status", "aap", "ap", "banks", "aap_per_bank", "ap_per_bank", "commands_per_element", "instruction")
 
 
-class Script(typing.NamedTuple):
-    """A script's instructions, and their lines."""
-
-    instructions: list[Instruction]
-    lines: list[str]
-
-    @classmethod
-    def load(cls, path: str) -> "Script":
-        instructions, data = loaded_script(path)
-        ends = [data[one.head.at:].split(b"\n", 1)[0] for one in instructions]
-        return cls(instructions, [line.decode("utf-8", "replace").partition("#")[0].strip() for line in ends])
-
-
-def in_banks(found: dict, script: Script, table: Table) -> None:
+def in_banks(found: dict, one: Instruction, table: Table) -> None:
     """Adds what one bank and one element of an instruction cost."""
-    one = script.instructions[found["number"] - 1]
-    found["instruction"] = script.lines[found["number"] - 1]
     if one.verb not in ("bbop", "bbop_trsp_init") or found["status"] != "ok":
         return
     count = one.number(0)
@@ -65,8 +49,9 @@ def instruction_of(line: str) -> dict | None:
     return None
 
 
-def object_of(text: str, table: Table | None = None, script: Script | None = None) -> dict:
+def object_of(text: str, table: Table | None = None, script: tuple[list[Instruction], bytes] | None = None) -> dict:
     """The object of a report; the table of the image adds the host's rows, and the script each instruction's banks."""
+    instructions, data = script or ([], b"")
     made: dict = {"instructions": [], "totals": None, "vote": None}
     for number, line in enumerate(text.splitlines(), 1):
         total, vote, found = TOTAL.fullmatch(line), VOTE.fullmatch(line), instruction_of(line)
@@ -87,10 +72,12 @@ def object_of(text: str, table: Table | None = None, script: Script | None = Non
             raise Fault(f"the report has fewer writes or reads than the {own} rows of the image: it is of another image")
         made["totals"].update(rows)
     numbers = [found["number"] for found in made["instructions"]]
-    if script and numbers != list(range(1, len(script.instructions) + 1)):
-        raise Fault(f"the report is of other instructions than the script's, which are 1 to {len(script.instructions)}")
-    for found in made["instructions"] if script else ():
-        in_banks(found, script, table)
+    if script and numbers != list(range(1, len(instructions) + 1)):
+        raise Fault(f"the report is of other instructions than the script's, which are 1 to {len(instructions)}")
+    for found, one in zip(made["instructions"], instructions):
+        line = data[one.head.at:].split(b"\n", 1)[0]
+        found["instruction"] = line.decode("utf-8", "replace").partition("#")[0].strip()
+        in_banks(found, one, table)
     return made
 
 
@@ -117,8 +104,7 @@ def main(asked: Asked) -> None:
     if asked.script and not asked.image:
         raise Fault("--script needs --image, the image that the script ran on")
     table = Table.read(load(asked.image, "image")[:HEAD_MAX], asked.image) if asked.image else None
-    script = Script.load(asked.script) if asked.script else None
-    made = object_of(text_of(asked.report), table, script)
+    made = object_of(text_of(asked.report), table, loaded_script(asked.script) if asked.script else None)
     rows = [list(COLUMNS), *([cell(found, name) for name in COLUMNS] for found in made["instructions"])]
     totals = " ".join(f"{name}={number}" for name, number in made["totals"].items())
     print(json.dumps(made, indent=1) if asked.json else f"{as_text(rows)}all banks: {totals}")

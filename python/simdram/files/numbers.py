@@ -15,6 +15,8 @@ from ..launcher.faults import FileFault
 from . import columns
 from .store import load
 
+# a number that Python reads, which has at most 4,300 digits
+NUMBER = re.compile(r"[-+]?\d(_?\d){0,4299}")
 ARRAY_MAGIC = b"\x93NUMPY"
 KIND = re.compile(r"([<>|=])([buif?OcSUV])(\d*)")
 CODES = {"u1": "B", "u2": "H", "u4": "I", "u8": "Q", "i1": "b", "i2": "h", "i4": "i", "i8": "q", "b1": "B"}
@@ -42,15 +44,10 @@ def of_text(text: str, path: str, first: int = 1) -> list[int]:
 
 
 def _no_number(text: str, path: str, first: int) -> FileFault:
-    for line, part in enumerate(text.splitlines(), first):
-        for word in part.replace(",", " ").split():
-            try:
-                int(word)
-            except ValueError:
-                names = ", with names in a first line of a .csv alone" if line == 1 else ""
-                said = f"{ascii(word[:24])} is no number; numbers are whole and decimal{names}"
-                return FileFault(path, f"line {line}", "number", said)
-    return FileFault(path, "", "number", "a word is no number")
+    words = ((line, word) for line, part in enumerate(text.splitlines(), first) for word in part.replace(",", " ").split())
+    line, word = next((line, word) for line, word in words if not NUMBER.fullmatch(word))
+    names = ", with names in a first line of a .csv alone" if line == 1 else ""
+    return FileFault(path, f"line {line}", "number", f"{ascii(word[:24])} is no number; numbers are whole and decimal{names}")
 
 
 def of_table(text: str, path: str) -> list[int]:

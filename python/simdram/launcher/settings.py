@@ -29,13 +29,11 @@ def unproved_by_file() -> bool:
     path = pathlib.Path(TOP) / FILE if TOP is not None else None
     if path is None or not path.is_file():
         return False
-    said = False
-    for number, line in enumerate(path.read_text(encoding="utf-8", errors="replace").splitlines(), 1):
-        word = line.partition("#")[0].strip()
+    words = [line.partition("#")[0].strip() for line in path.read_text(encoding="utf-8", errors="replace").splitlines()]
+    for number, word in enumerate(words, 1):
         if word not in ("", "unproved", "--unproved"):
             raise NoProgram(f"{path} line {number}: {word} is not a setting; the only setting is: unproved")
-        said = said or bool(word)
-    return said
+    return any(words)
 
 
 def taken(words: list[str]) -> tuple[Settings, list[str]]:

@@ -74,7 +74,6 @@ class Search:
         self.before = list(entries)
 
     def run(self) -> None:
-        """Searches on all processors."""
         in_parallel(self.search, range(len(self.found)), "optimise")
 
     def search(self, k: int) -> None:
@@ -158,7 +157,6 @@ class Fewest(typing.NamedTuple):
     is_right: bool
 
     def line(self) -> str:
-        """What is said of it."""
         name = self.entry.name
         said = f"{name} {self.before} to {self.after}" if self.after < self.before else f"{name} as it was"
         return said if self.is_right else f"{said}, not known to be right"

@@ -5,7 +5,7 @@ import typing
 
 from ..files.image import Object, Table
 from .answer import Breach, near
-from .tokens import NAME_MAX, NUMBER, Token, is_long, value_of
+from .tokens import NAME_MAX, NUMBER, Token, value_of
 
 WIDTH_MAX = 128
 FORM = "bits of an object: NAME[K], or NAME[LO:HI] for LO up to, not with, HI"
@@ -54,7 +54,7 @@ class Operand(typing.NamedTuple):
                          f"{found.width - 1}")
 
     def check_name(self) -> None:
-        if is_long(self.name.text):
+        if len(self.name.text) > NAME_MAX:
             raise Breach(self.name, "bad_name", f"a name has at most {NAME_MAX} bytes; this one has {len(self.name.text)}")
 
     def check_bits(self) -> None:

@@ -6,7 +6,7 @@ from ..launcher.faults import Fault
 from . import word_ops
 from .answer import Breach, near, not_allowed
 from .op_tree import Expr, Op, OpShape, StatementShape, gate, read
-from .tokens import END, NAME, NAME_MAX, STRANGER, Token, is_long, no_token, tokens
+from .tokens import END, NAME, NAME_MAX, STRANGER, Token, no_token, tokens
 
 RESERVED = ("op", "word", "bit", "serial", "up", "down", "let")
 OPS, SOURCES, RESULTS, STATEMENTS, STATES, ASSIGNMENTS, LETS, WEIGHT, DEPTH = 32, 4, 2, 16, 8, 8, 16, 24, 32
@@ -69,7 +69,7 @@ class Reader:
         """A new name that is not reserved, not too long and not taken."""
         if token.text in RESERVED:
             raise Breach(token, "bad_name", f"{token.text} is a reserved word: {listed(RESERVED)}", f"give {what} another name")
-        if is_long(token.text):
+        if len(token.text) > NAME_MAX:
             raise Breach(token, "bad_name", f"a name has at most {NAME_MAX} bytes; this one has {len(token.text)}")
         if is_taken(token.text):
             raise Breach(token, "twice", f"{token.text} is already defined in this op; a name is assigned once",

@@ -8,7 +8,7 @@ from ..files.store import load
 from ..launcher.words import nearest
 from .answer import Breach
 from .operands import WIDTH_MAX, Operand, operand_at
-from .tokens import END, NAME, NAME_MAX, NUMBER, STRANGER, Token, is_long, no_token, tokens, value_of
+from .tokens import END, NAME, NAME_MAX, NUMBER, STRANGER, Token, no_token, tokens, value_of
 
 FORMS = {
     "bbop_trsp_init": "bbop_trsp_init NAME, COUNT, N",
@@ -118,7 +118,7 @@ def check_range(token: Token, least: int, most: int, what: str) -> None:
 
 def check_words(one: Instruction) -> None:
     """Whether the names are short enough and the operation's name is one, and then whether each number may stand where it does."""
-    if one.verb == "bbop" and (not one.op or one.op[0].isdigit() or is_long(one.op)):
+    if one.verb == "bbop" and (not one.op or one.op[0].isdigit() or len(one.op) > NAME_MAX):
         raise Breach(one.head, "bad_name", f"bbop_ is followed by the name of an operation, of 1 to {NAME_MAX} bytes")
     for check in (Operand.check_name, Operand.check_bits):
         for operand in one.operands:

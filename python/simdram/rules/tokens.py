@@ -48,10 +48,6 @@ def line_of(data: bytes, at: int) -> int:
     return 1 + data.count(b"\n", 0, min(at, max(len(data) - 1, 0)))
 
 
-def is_long(name: str) -> bool:
-    return len(name) > NAME_MAX
-
-
 def value_of(digits: str) -> int:
     """The number that digits write; where it has more than 40 digits, some number above all that may stand anywhere."""
     kept = digits.lstrip("0") or "0"

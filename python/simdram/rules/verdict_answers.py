@@ -51,9 +51,8 @@ def named(numbers, names) -> str:
     return str(numbers[0]) if len(numbers) == 1 else " and ".join(f"{name}={number}" for name, number in zip(names, numbers))
 
 
-def of_start(verdict: Verdict, shape: OpShape, entry: Entry, n: int) -> str:
-    """What a case's start has to do with it."""
-    cells = " and ".join([", ".join(verdict.start[:-1])] * (len(verdict.start) > 1) + [verdict.start[-1]])
+def of_start(verdict: Verdict, cells: str, shape: OpShape, entry: Entry, n: int) -> str:
+    """What a case's start, with ones in these cells, has to do with it."""
     # what the entry gives where all cells and rows but the sources hold 0 at the start
     column = Column(entry, n, list(verdict.operands.values()), ()).run()
     found = tuple(int(column.result(which)) for which in range(len(entry.results)))
@@ -76,7 +75,7 @@ def of_wrong(verdict: Verdict, shape: OpShape, entry: Entry, prog: str, n: int) 
         return f"{rule}, where every cell and row but the sources holds 0 at the start", (steps,)
     cells = " and ".join([", ".join(verdict.start[:-1])] * (len(verdict.start) > 1) + [verdict.start[-1]])
     return (f"{rule}, where {cells} hold{'s' * (len(verdict.start) == 1)} 1 at the start and the others 0",
-            (of_start(verdict, shape, entry, n), steps))
+            (of_start(verdict, cells, shape, entry, n), steps))
 
 
 def of_stuck(verdict: Verdict, entry: Entry, prog: str, n: int) -> tuple[str, tuple[str, ...]]:
