@@ -14,8 +14,8 @@ from test_words import called
 
 from simdram.graphs.blif_file import Reader
 from simdram.graphs.block_graph import written
-from simdram.graphs.from_blif import Block
-from simdram.graphs.least_gates import expressions, text
+from simdram.graphs.from_blif import text_of
+from simdram.graphs.least_gates import expressions, spelled
 from simdram.graphs.mig import Graph
 from simdram.graphs.netlist import in_order
 from simdram.graphs.splitting import split
@@ -340,7 +340,7 @@ class Netlists(Folder):
             wanted = in_positions(net, words)
             for one in nets:
                 self.assertTrue(len(one.sources) <= 4 and len(one.words) <= 2)
-                self.assertEqual(len(read_ops(Block(one, "net", [], {}, len(nets) == 1).text(one.name, "up").encode())), 1)
+                self.assertEqual(len(read_ops(text_of(one, "net", "up", {}, gives_states=len(nets) == 1).encode())), 1)
                 words.update(in_positions(one, words))
             self.assertEqual({name: words[name] for name in wanted}, wanted)
         self.assertGreater(several, 60)
@@ -364,9 +364,9 @@ class Netlists(Folder):
                 end = dice.choice("01")
                 lines += [f".names {' '.join(inputs)} n{k}", *(f"{row} {end}" for row in sorted(rows))]
                 signals.append(f"n{k}")
-            text = "\n".join([".model m", ".inputs a b c", f".outputs {signals[-1]}", *lines, ".end", ""])
+            text = "\n".join([".model own", ".inputs a b c", f".outputs {signals[-1]}", *lines, ".end", ""])
             net = self.net(text)
-            shape, = shapes_of("own", Block(net, "net", [], {}).text("own", "up").encode())
+            shape, = shapes_of("own", text_of(net, "net", "up", {}).encode())
             inputs, mask = patterns(net.inputs)
             self.assertEqual(written(shape.statements[0], shape).values(inputs, mask), netlist_values(net, inputs, mask), text)
 
@@ -378,14 +378,13 @@ class Expressions(unittest.TestCase):
         known = expressions()
         for values in range(256):
             self.assertTrue(values in known or 255 ^ values in known)
-            spelled = text(values, {"x": "x", "y": "y", "z": "z"})
-            ops = f"op f(x: word, y: word, z: word) -> o: word {{ serial up () {{ o = {spelled}; }} }}"
+            ops = f"op f(x: word, y: word, z: word) -> o: word {{ serial up () {{ o = {spelled(values)}; }} }}"
             shape, = shapes_of("f", ops.encode())
             graph = written(shape.statements[0], shape)
             inputs = {"x": 0b10101010, "y": 0b11001100, "z": 0b11110000}
-            self.assertEqual(graph.values(inputs, 255)["o"], values, spelled)
-        self.assertEqual(text(0b10010110, {"x": "a", "y": "b", "z": "c"}).count("maj"), 3)
-        self.assertEqual(text(0b01100110, {"x": "a", "y": "b"}), "xor(a, b)")
+            self.assertEqual(graph.values(inputs, 255)["o"], values, ops)
+        self.assertEqual(str(spelled(0b10010110)).count("maj"), 3)
+        self.assertEqual(str(spelled(0b01100110)), "xor(x, y)")
 
 
 if __name__ == "__main__":

@@ -4,10 +4,10 @@ import itertools
 import re
 import typing
 
-from ..rules.op_tree import head_text
+from ..rules.op_tree import Op, WordStatement
 from ..rules.ops_rules import RESULTS, SOURCES, STATEMENTS
 from .expressions import Step, Value, givers, in_order
-from .operations import Operation, statement
+from .operations import Operation
 
 
 class Part:
@@ -81,16 +81,19 @@ def text_of(name: str, part: Part) -> str:
     """The text, in its canonical form."""
     names = {id(value): letter for value, letter in zip(part.sources, PARAMETER_NAMES)}
     names.update((id(value), letter) for value, letter in zip(part.results, RESULT_NAMES))
-    given, states, lines = len(names), map("s{}".format, itertools.count()), []
+    given, states, body = len(names), map("s{}".format, itertools.count()), []
     for step in part.steps:
         for value in step.results:
             names.setdefault(id(value), f"t{len(names) - given}")
         targets, arguments = ([names[id(value)] for value in values] for values in (step.results, step.arguments))
-        said = statement(step.operation, targets[0], arguments, states.__next__) if step.operation.block else \
-            f"{', '.join(targets)} = {step.operation.name}({', '.join(arguments)});"
-        lines.append(f"  {said}\n")
-    head = head_text(f"op {name}", *([(names[id(value)], value.kind) for value in values] for values in (part.sources, part.results)))
-    return f"{head} {{\n{''.join(lines)}}}\n"
+        if block := step.operation.block:
+            own = {"y": targets[0], **dict(zip("ab", arguments))}
+            own.update((letter, next(states)) for letter, _ in block.states if letter not in own)
+            body.append(block.renamed(own.__getitem__))
+        else:
+            body.append(WordStatement(tuple(targets), step.operation.name, tuple(arguments)))
+    params, results = (tuple((names[id(value)], value.kind) for value in values) for values in (part.sources, part.results))
+    return Op(name, params, results, body).text()
 
 
 def renamed(text: str, name: str) -> str:

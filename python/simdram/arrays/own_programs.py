@@ -1,18 +1,16 @@
 """Programs of a designer's own, in the text for microprograms, as functions of arrays (docs/MICROPROGRAMS.md)."""
 
-import re
 import warnings
 
 from ..assembler import Breach, assemble
 from ..files.program import Program
 from ..files.store import folder_of
 from ..launcher import run_program
+from ..rules.ops_rules import read_ops
 from ..rules.verdicts import VERIFIED, Verdict, verdicts_of
 from .user_ops import Counted, canonical
 from .cutting import renamed
 from .refusals import Stopped
-
-OPS = re.compile(r"^op ", re.MULTILINE)
 
 
 class Unverified(UserWarning):
@@ -41,7 +39,7 @@ class OwnProgram(Counted):
         if not 1 <= bits <= 128:
             raise ValueError(f"a program is verified at a width of 1 to 128, and not {bits}")
         text = canonical(op)
-        if len(OPS.findall(text)) != 1:
+        if len(read_ops(text.encode())) != 1:
             raise ValueError("a program is verified against the text of one op")
         with folder_of(ops=renamed(text, self.name).encode(), prog=self.program) as folder:
             ended = run_program.run(["verify", "ops", "prog", bits], folder)

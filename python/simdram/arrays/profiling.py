@@ -6,7 +6,7 @@ import typing
 from ..costs.profile import Row, table
 from .costing import Cost
 from .running import DONE, Made, computes
-from .user_ops import split
+from .user_ops import known_ops
 
 HEAD = ("share", "commands", "aap", "ap", "times")
 
@@ -71,7 +71,7 @@ def by_statement(made: Made, instructions: typing.Sequence[Row]) -> tuple[Row, .
 
     A program of a designer's own has no statements.
     """
-    ops = {one.name: one for one in split(made.ops)}
+    ops = known_ops(made.ops)
     done = [(op_of(row.what), int(row.what.rpartition(",")[2]), row) for row in instructions
             if row.what.startswith("bbop_") and op_of(row.what) in ops]
     rows: list[Row] = []

@@ -2,7 +2,6 @@
 
 import functools
 import operator
-import re
 import typing
 
 from ..costs.costs import EntryCost, costs_at
@@ -10,6 +9,8 @@ from ..costs.profile import Profile, profiles
 from ..files.store import folder_of, load
 from ..launcher import run_program
 from ..launcher.settings import taken
+from ..rules import op_tree
+from ..rules.ops_rules import read_ops
 from .array import Array
 from .cells import checked_width
 from .operators import stepped
@@ -56,16 +57,12 @@ class Counted:
             return profiles(f"{folder}/prog", [checked_width(operator.index(bits))], taken([])[0], ops, True)[0]
 
 
-HEAD = re.compile(r"^op (\w+)\((.*)\) -> (.*) \{$", re.MULTILINE)
-
-
 class Op(Counted):
     """An op of the language, which takes and gives arrays; `text` is its canonical form."""
 
-    def __init__(self, text: str) -> None:
-        self.text = self.ops_text = text
-        self.name, takes, gives = HEAD.search(text).groups()
-        self.takes, self.gives = ([one.split(": ")[1] for one in part.split(", ")] for part in (takes, gives))
+    def __init__(self, tree: op_tree.Op) -> None:
+        self.name, self.text = tree.name, tree.text()
+        self.ops_text, self.takes, self.gives = self.text, *([kind for _, kind in part] for part in (tree.params, tree.results))
 
     @functools.cached_property
     def program(self) -> bytes:
@@ -77,15 +74,14 @@ class Op(Counted):
             return load(f"{folder}/prog")
 
 
-def split(text: str) -> list[Op]:
-    """The ops of a text in its canonical form."""
-    starts = [match.start() for match in HEAD.finditer(text)]
-    return [Op(text[start:end]) for start, end in zip(starts, [*starts[1:], len(text)])]
-
-
 def ops(text: str) -> dict[str, Op]:
     """The ops of a text, by name and in its order; a text that the program refuses is raised with its line and kind."""
-    return {one.name: one for one in split(canonical(text))}
+    return known_ops(canonical(text))
+
+
+def known_ops(text: str) -> dict[str, Op]:
+    """The ops of a text that the program accepts."""
+    return {one.name: Op(one) for one in read_ops(text.encode())}
 
 
 def op(text: str, name: str | None = None) -> Op:

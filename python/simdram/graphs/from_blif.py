@@ -12,19 +12,20 @@ the instructions that call them in order. What breaks a limit of the language is
 import collections
 import re
 import sys
+import typing
 
 from ..files.store import load
 from ..launcher.faults import Fault
 from ..launcher.tool_parser import Asked, flag, option, tool
 from ..rules.answer import first_breach
+from ..rules.op_tree import BIT, WORD, Block, Expr, Op, gate, read
 from ..rules.ops_rules import RESERVED, RESULTS, SOURCES, read_ops
 from ..rules.tokens import NAME_MAX
 from ..rules.word_ops import GATES
 from . import aiger_file
 from .blif_file import Reader, cells_in
-from .least_gates import LETTER, spelled
-from .least_gates import text as expression
-from .netlist import NEXT, Netlist, in_order
+from .least_gates import spelled
+from .netlist import NEXT, Netlist, Table, in_order
 from .splitting import function, split
 
 
@@ -47,67 +48,42 @@ class Names:
         return self.of[signal]
 
 
-class Block:
-    """A block from a netlist: its states, words and bits, and its expressions."""
-
-    def __init__(self, net: Netlist, path: str, bits: list[str], starts: dict[str, str], gives_states: bool = True) -> None:
-        self.net, self.path, self.names, self.gives_states = net, path, Names(), gives_states
-        self.states, self.sources, self.words = net.states, net.sources, net.words
-        if not self.sources:
-            raise Fault(f"{path}: an op has 1 to {SOURCES} parameters, and the netlist 0 inputs that are no states")
-        self.bits, self.starts = bits, {**net.starts, **starts}
-        self.order = in_order(net, path)
-        reads = collections.Counter(net.outputs)
-        for name in self.order:
-            reads.update(self.read_by(name))
-        self.lets = {name for name in self.order if reads[name] > 1}
-
-    def read_by(self, signal: str) -> list[str]:
-        """The signals that the expression of a table reads, as often as it does."""
-        inputs = dict(zip("xyz", self.net.tables[signal].inputs))
-        return [inputs[letter] for letter in LETTER.findall(spelled(function(self.net.tables[signal])))]
-
-    def value(self, signal: str) -> str:
-        """What stands for a signal: its name, or, of a table that is read once, its expression."""
-        if signal in self.net.tables and signal not in self.lets:
-            return self.expression(signal)
-        return self.names.of.get(f"let {signal}") or self.names.name(signal)
-
-    def expression(self, signal: str) -> str:
-        if signal not in self.net.tables:
-            return self.names.name(signal)
-        inputs = self.net.tables[signal].inputs
-        needed = set(self.read_by(signal))
-        return expression(function(self.net.tables[signal]), {letter: self.value(one) for letter, one in zip("xyz", inputs) if one in needed})
-
-    def text(self, name: str, direction: str) -> str:
-        # the op's own names come first, so that they are kept where they can be
-        ports = [self.names.name(one) for one in (*self.sources, *self.states, *self.words)]
-        takes, states = ports[:len(self.sources)], ports[len(self.sources):len(ports) - len(self.words)]
-        words = ports[len(ports) - len(self.words):]
-        results = [f"{one}: word" for one in words] + [f"{one}: bit" for one in states if self.gives_states or not words]
-        given = ", ".join(f"{one}: {'bit' if its in self.bits else 'word'}" for one, its in zip(takes, self.sources))
-        lines = [f"op {name}({given}) -> {', '.join(results[:RESULTS])} {{",
-                 f"  serial {direction} ({', '.join(f'{one} = {self.starts.get(its, 0)}' for one, its in zip(states, self.states))}) {{"]
-        targets = {**dict(zip(self.words, words)), **{its + NEXT: one for its, one in zip(self.states, states)}}
-        for one in self.order:
-            if one in self.lets:
-                lines.append(f"    let {self.let(one)} = {self.expression(one)};")
-        for signal, target in targets.items():
-            shown = self.names.of[f"let {signal}"] if signal in self.lets else self.value(signal)
-            lines.append(f"    {target} = {shown};")
-        changed = "".join(f"# {its} is {one}\n" for its, one in self.names.of.items() if its != one and not its.startswith("let "))
-        return changed + "\n".join([*lines, "  }", "}", ""])
-
-    def let(self, signal: str) -> str:
-        """The name of a let; that of an output is another one than the output's."""
-        if signal in self.net.outputs:
-            self.names.of[f"let {signal}"] = self.names.name(f"{signal}_let")
-            return self.names.of[f"let {signal}"]
-        return self.names.name(signal)
+def expression(table: Table, held: dict[str, Expr]) -> Expr:
+    """What a table gives, from what stands for its inputs."""
+    inputs = dict(zip("xyz", table.inputs))
+    return spelled(function(table)).computed(lambda name: held[inputs[name]] if name in inputs else gate(name),
+                                             lambda kind, args: gate(kind, *args))
 
 
-def read(path: str, genlib: str | None) -> Netlist:
+def text_of(net: Netlist, path: str, direction: str, starts: dict[str, str], bits: typing.Container[str] = (),
+            gives_states: bool = True) -> str:
+    """The text of an op of one block from a netlist, in which a table that is read several times is a let."""
+    if not net.sources:
+        raise Fault(f"{path}: an op has 1 to {SOURCES} parameters, and the netlist 0 inputs that are no states")
+    # the op's own names come first, so that they are kept where they can be
+    names, order = Names(), in_order(net, path)
+    own = {one: names.name(one) for one in (*net.sources, *net.states, *net.words)}
+    reads = collections.Counter(net.outputs)
+    for table in map(net.tables.__getitem__, order):
+        inputs = dict(zip("xyz", table.inputs))
+        reads.update(inputs[letter] for letter in spelled(function(table)).names())
+    held, lets = {one: read(own[one]) for one in (*net.sources, *net.states)}, []
+    for one in order:
+        held[one] = expression(net.tables[one], held)
+        if reads[one] > 1:
+            # the let of an output has another name than the output
+            lets.append((names.name(f"{one}_let" if one in net.outputs else one), held[one]))
+            held[one] = read(lets[-1][0])
+    params = tuple((own[one], BIT if one in bits else WORD) for one in net.sources)
+    results = [(own[one], WORD) for one in net.words]
+    results += [(own[one], BIT) for one in net.states if gives_states or not net.words]
+    assigns = [(own[one], held[one]) for one in net.words] + [(own[one], held[one + NEXT]) for one in net.states]
+    states = tuple((own[one], int({**net.starts, **starts}.get(one, 0))) for one in net.states)
+    changed = "".join(f"# {its} is {one}\n" for its, one in names.of.items() if its != one)
+    return changed + Op(net.name, params, tuple(results[:RESULTS]), [Block(direction, states, tuple(lets), tuple(assigns))]).text()
+
+
+def netlist_of(path: str, genlib: str | None) -> Netlist:
     data = load(path)
     if data.startswith(aiger_file.MAGIC):
         return aiger_file.Reader(path, data).read()
@@ -141,15 +117,14 @@ def main(asked: Asked) -> None:
         if not equals or bit not in ("0", "1"):
             raise Fault(f"--state takes NAME=0 or NAME=1, and not {one}")
         starts[name] = bit
-    net = read(asked.file, asked.genlib)
+    net = netlist_of(asked.file, asked.genlib)
     unknown = [one for one in [*asked.bit, *starts] if one not in (net.sources if one in asked.bit else net.states)]
     if unknown:
         raise Fault(f"{asked.file} has no {'input' if unknown[0] in asked.bit else 'state'} {unknown[0]}")
     net.name = Names().name(asked.name or net.name)
     nets = split(net, asked.file)
-    blocks = [Block(one, asked.file, [bit for bit in asked.bit if bit in one.sources],
-                    {state: bit for state, bit in starts.items() if state in one.states}, len(nets) == 1) for one in nets]
-    text = calls(net, nets, asked.file) + "".join(one.text(one.net.name, "down" if asked.down else "up") for one in blocks)
+    direction = "down" if asked.down else "up"
+    text = calls(net, nets, asked.file) + "".join(text_of(one, asked.file, direction, starts, asked.bit, len(nets) == 1) for one in nets)
     if (answer := first_breach(asked.file, text.encode(), read_ops)) is not None:
         raise Fault(f"{asked.file}: the op would break a rule, {answer.kind}: {answer.rule}")
     print(text, end="")

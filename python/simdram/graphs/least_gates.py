@@ -6,14 +6,13 @@ A function is its values on the eight patterns of x, y and z, as a number of eig
 
 import functools
 import itertools
-import re
 import typing
 
+from ..rules.op_tree import Expr, gate, read
 from ..rules.word_ops import GATE_VALUES
 
 INPUTS = {"x": 0b10101010, "y": 0b11001100, "z": 0b11110000}
 ALL = 0xFF
-LETTER = re.compile(r"\b[xyz]\b")
 
 
 @functools.lru_cache(maxsize=None)
@@ -45,29 +44,24 @@ def candidates(weights: dict[int, int], weight: int) -> typing.Iterator[tuple[in
 
 
 @functools.lru_cache(maxsize=None)
-def spelled(values: int) -> str:
+def spelled(values: int) -> Expr:
     """The shortest spelling of a function's expression, in x, y and z."""
     if values in (0, ALL):
-        return "1" if values else "0"
+        return gate("1" if values else "0")
     made = expressions().get(values)
     turned = expressions().get(ALL ^ values)
-    forms = [] if made is None else [gate(made)]
+    forms = [] if made is None else [gate_of(made)]
     if turned is not None:
-        forms.append(f"not({gate(turned)})")
+        forms.append(gate("not", gate_of(turned)))
         # the complement of a majority is the majority of the complements
-        forms += [gate(tuple(ALL ^ one for one in turned))] if len(turned) == 3 else []
-    return min(forms, key=lambda form: (form.count("not("), len(form)))
+        forms += [gate_of(tuple(ALL ^ one for one in turned))] if len(turned) == 3 else []
+    return min(forms, key=lambda form: (str(form).count("not("), len(str(form))))
 
 
-def gate(made: tuple) -> str:
+def gate_of(made: tuple) -> Expr:
     """A name, or a gate of functions."""
     if len(made) == 1:
-        return made[0]
-    constants = [one for one in made if one in (0, ALL)]
-    name = "xor" if len(made) == 2 else {(): "maj", (0,): "and", (ALL,): "or"}[tuple(constants)]
-    return f"{name}({', '.join(spelled(one) for one in made if one not in constants)})"
-
-
-def text(values: int, names: typing.Mapping[str, str]) -> str:
-    """The expression of a function, with names for x, y and z."""
-    return LETTER.sub(lambda found: names[found[0]], spelled(values))
+        return read(made[0])
+    constants = tuple(one for one in made if one in (0, ALL))
+    name = "xor" if len(made) == 2 else {(): "maj", (0,): "and", (ALL,): "or"}[constants]
+    return gate(name, *(spelled(one) for one in made if one not in constants))

@@ -7,6 +7,7 @@ import typing
 
 from ..launcher.faults import Fault
 from ..rules.ops_rules import RESULTS, SOURCES, WEIGHT
+from ..simplify import op_limits
 from .least_gates import spelled
 from .netlist import NEXT, Netlist, Table, in_order
 
@@ -21,8 +22,7 @@ def function(table: Table) -> int:
 
 def weight(table: Table) -> int:
     """What the gates of a table weigh in a block."""
-    text = spelled(function(table))
-    return 3 * text.count("xor(") + text.count("and(") + text.count("or(") - text.count("xor(") + text.count("maj(")
+    return op_limits.weight(spelled(function(table)))
 
 
 class Cone(typing.NamedTuple):
@@ -102,7 +102,7 @@ class Splitter:
         whole = self.joined("", outside, ())
         cone = Cone(whole.leaves, whole.tables - {""} | frozenset(inside))
         if not self.fits(cone):
-            for one in outside:
+            for one in sorted(outside):
                 self.keep(one)
             cone = Cone(frozenset(outside), frozenset(inside))
         if not self.fits(cone):
