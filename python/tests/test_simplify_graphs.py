@@ -7,12 +7,12 @@ import unittest
 import support  # noqa: F401  (the path)
 from random_ops import Maker
 
-from simdram.rules.op_tree import Block, Op, WordStatement, gate, read
+from simdram.rules.op_tree import BIT, Block, Op, WordStatement, gate, read
 from simdram.rules.ops_rules import read_ops
 from simdram.simplify import gates
 from simdram.simplify.blocks import written
 from simdram.simplify.cut import cut
-from simdram.simplify.gates import BIT, Graph
+from simdram.simplify.gates import Graph
 from simdram.simplify.items import Items
 from simdram.simplify.lowering import Lowered
 from simdram.simplify.moves import moves, starts
@@ -130,7 +130,7 @@ class Gates(unittest.TestCase):
     def test_tables_over_what_matters(self):
         self.assertEqual(gates.smallest(0b1010, (5, 7)), (0b10, (5,)))
         self.assertEqual(gates.smallest(0b1111, (5, 7)), (0b1, ()))
-        self.assertEqual(gates.spread(0b10, (5,), (3, 5)), 0b1100)
+        self.assertEqual(gates.over(0b10, (5,), (3, 5)), 0b1100)
 
 
 class Plans(unittest.TestCase):

@@ -2,7 +2,8 @@
 
 import typing
 
-from .gates import STATE, WHOLE, WORD, StateRule, replaced
+from ..rules.op_tree import WORD
+from .gates import STATE, WHOLE, StateRule, replaced
 from .sums import Sums
 
 ALONE = "alone"

@@ -7,6 +7,7 @@ that have equal truth tables are one literal.
 import typing
 
 from ..graphs.mig import normal_majority
+from ..rules.op_tree import BIT, WORD
 from ..rules.word_ops import GATE_VALUES
 
 # truth tables of at most so many leaves are whole numbers: bit i is the value where leaf k is bit k of i
@@ -14,8 +15,8 @@ LEAVES = 8
 Leaves = tuple[int, ...]
 # the rows in which each of so many leaves is 1
 ROWS = [[sum(1 << i for i in range(1 << count) if i >> k & 1) for k in range(count)] for count in range(LEAVES + 1)]
-# the kinds of leaves: a source's word, a bit, a state, its last value, and a result of an operation that stays whole
-WORD, BIT, STATE, LAST, WHOLE, CONST = "word", "bit", "state", "last", "whole", "const"
+# the kinds of leaves: a source's word or bit, a state, its last value, and a result of an operation that stays whole
+STATE, LAST, WHOLE, CONST = "state", "last", "whole", "const"
 LEAF_KINDS = (WORD, BIT, STATE, LAST, WHOLE)
 
 
@@ -24,29 +25,21 @@ def full(count: int) -> int:
     return (1 << (1 << count)) - 1
 
 
-def spread(table: int, have: Leaves, want: Leaves) -> int:
-    """A table over some leaves, over more leaves."""
+def over(table: int, have: Leaves, want: Leaves) -> int:
+    """A table over some leaves, over others: what it does not have makes no difference, and what is not wanted is 0."""
     if have == want:
         return table
-    places, found = [want.index(leaf) for leaf in have], 0
-    for i in range(1 << len(want)):
-        row = sum((i >> place & 1) << k for k, place in enumerate(places))
-        found |= (table >> row & 1) << i
-    return found
-
-
-def without(table: int, count: int, k: int) -> int:
-    """A table where leaf k is 0, over the others."""
-    return sum((table >> (i >> k << (k + 1) | i & ((1 << k) - 1)) & 1) << i for i in range(1 << (count - 1)))
+    places = [(k, have.index(leaf)) for k, leaf in enumerate(want) if leaf in have]
+    rows = (sum((i >> k & 1) << place for k, place in places) for i in range(1 << len(want)))
+    return sum((table >> row & 1) << i for i, row in enumerate(rows))
 
 
 def smallest(table: int, leaves: Leaves) -> tuple[int, Leaves]:
     """The table over those leaves that make a difference."""
-    for k in range(len(leaves) - 1, -1, -1):
-        ones = ROWS[len(leaves)][k]
-        if (table & ones) >> (1 << k) == table & ~ones & full(len(leaves)):
-            table, leaves = without(table, len(leaves), k), leaves[:k] + leaves[k + 1:]
-    return table, leaves
+    count = len(leaves)
+    needed = tuple(leaf for k, leaf in enumerate(leaves)
+                   if (table & ROWS[count][k]) >> (1 << k) != table & ~ROWS[count][k] & full(count))
+    return over(table, leaves, needed), needed
 
 
 class Node(typing.NamedTuple):
@@ -188,7 +181,7 @@ class Graph:
 
     def _over(self, lit: int, leaves: Leaves) -> int:
         """The table of a literal over more leaves."""
-        found = spread(self.table[lit >> 1], self.support[lit >> 1], leaves)
+        found = over(self.table[lit >> 1], self.support[lit >> 1], leaves)
         return found ^ full(len(leaves)) if lit & 1 else found
 
     def new_state(self) -> int:

@@ -2,9 +2,8 @@
 
 import typing
 
-from ..rules.op_tree import WORD
+from ..rules.op_tree import BIT, WORD
 from .gates import LAST, STATE, WHOLE
-from .gates import WORD as WORD_LEAF
 from .lowering import Lowered
 
 
@@ -59,7 +58,7 @@ class Items:
 
     def needs_row(self, lit: int, is_result: bool = True) -> bool:
         """Whether a word has to be computed into rows: it is no source's and no operation's, and no constant result."""
-        return not (self.graph.node(lit).kind in (WORD_LEAF, WHOLE) and not lit & 1) and not (is_result and lit < 2)
+        return not (self.graph.node(lit).kind in (WORD, WHOLE) and not lit & 1) and not (is_result and lit < 2)
 
     def _join(self) -> None:
         """States that read each other are one component."""
@@ -95,4 +94,4 @@ class Items:
 
     def bits_only(self, lit: int) -> bool:
         """Whether a literal is of bits and last values alone."""
-        return lit > 1 and all(self.graph.nodes[leaf].kind in ("bit", LAST) for leaf in self.graph.leaves[lit >> 1])
+        return lit > 1 and all(self.graph.nodes[leaf].kind in (BIT, LAST) for leaf in self.graph.leaves[lit >> 1])

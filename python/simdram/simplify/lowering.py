@@ -4,7 +4,7 @@ import typing
 
 from ..rules.op_tree import ALIKE, BIT, TO_BIT, WORD, Block, Expr, Op, WordStatement
 from .forms import Forms
-from .gates import BIT as BIT_LEAF, STATE, WORD as WORD_LEAF, StateRule, equal_states, settle
+from .gates import STATE, StateRule, equal_states, settle
 
 
 class Lowered(Forms):
@@ -13,7 +13,7 @@ class Lowered(Forms):
     def __init__(self, op: Op, choice: typing.Sequence[int] = ()) -> None:
         super().__init__(choice)
         self.op = op
-        self.values = {name: (kind, self.graph.leaf(WORD_LEAF if kind == WORD else BIT_LEAF, name)) for name, kind in op.params}
+        self.values = {name: (kind, self.graph.leaf(kind, name)) for name, kind in op.params}
         self.named: dict[int, str] = {}
         self.optional: list[int] = []
         for one in op.body:

@@ -52,8 +52,10 @@ def _start(items: Items, base: typing.Sequence[Group], words: typing.Sequence[It
 def _joined(plan: Plan, one: Item, other: Item) -> Plan:
     """The plan with the groups of two items as one; the same where they are."""
     first, second = (next(group for group in plan.groups if item in group) for item in (one, other))
-    if first is second:
-        return plan
+    return plan if first is second else _merge(plan, first, second)
+
+
+def _merge(plan: Plan, first: Group, second: Group) -> Plan:
     return plan.with_groups([*(group for group in plan.groups if group not in (first, second)), first | second])
 
 
@@ -68,41 +70,31 @@ def merged(items: Items, plan: Plan) -> Plan:
 
 def merges(plan: Plan) -> typing.Iterator[Plan]:
     """Two groups as one."""
-    groups = plan.groups
-    for i, j in itertools.combinations(range(len(groups)), 2):
-        if not is_whole(groups[i]) and not is_whole(groups[j]):
-            yield plan.with_groups([*(group for k, group in enumerate(groups) if k not in (i, j)), groups[i] | groups[j]])
+    return (_merge(plan, *pair) for pair in itertools.combinations(plan.groups, 2) if not any(map(is_whole, pair)))
 
 
-def _with(groups: typing.Sequence[Group], at: int, group: Group) -> list[Group]:
-    return [group if k == at else its for k, its in enumerate(groups)]
+def _placed(plan: Plan, groups: typing.Sequence[Group], item: Item, at: int = -1) -> typing.Iterator[Plan]:
+    """These groups with one more item, in a group of its own, or in another than the one where it stood."""
+    yield plan.with_groups([*groups, frozenset([item])])
+    for k, group in enumerate(groups):
+        if k != at and not is_whole(group):
+            yield plan.with_groups([*groups[:k], group | {item}, *groups[k + 1:]])
 
 
 def splits(plan: Plan) -> typing.Iterator[Plan]:
     """An item in a group of its own, or in another group."""
-    groups = plan.groups
-    for i, group in enumerate(groups):
-        if is_whole(group) or len(group) < 2:
-            continue
-        for item in sorted(group):
-            rest = _with(groups, i, group - {item})
-            yield plan.with_groups([*rest, frozenset([item])])
-            for j, other in enumerate(groups):
-                if j != i and not is_whole(other):
-                    yield plan.with_groups(_with(rest, j, other | {item}))
+    for k, group in enumerate(plan.groups):
+        for item in sorted(group) if len(group) > 1 and not is_whole(group) else ():
+            yield from _placed(plan, [*plan.groups[:k], group - {item}, *plan.groups[k + 1:]], item, k)
 
 
 def rows(items: Items, plan: Plan) -> typing.Iterator[Plan]:
     """A word of the text in a row, or in none."""
-    groups = plan.groups
     for word in (Item(ROW, lit) for lit in items.optional):
-        if any(word in group for group in groups):
-            yield plan.with_groups(group - {word} for group in groups)
-            continue
-        yield plan.with_groups([*groups, frozenset([word])])
-        for j, other in enumerate(groups):
-            if not is_whole(other):
-                yield plan.with_groups(_with(groups, j, other | {word}))
+        if any(word in group for group in plan.groups):
+            yield plan.with_groups(group - {word} for group in plan.groups)
+        else:
+            yield from _placed(plan, plan.groups, word)
 
 
 def again(items: Items, plan: Plan) -> typing.Iterator[Plan]:

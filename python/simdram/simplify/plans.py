@@ -3,7 +3,7 @@
 import dataclasses
 import typing
 
-from .gates import CONST, LAST, STATE, WHOLE
+from .gates import CONST, LAST, STATE, WHOLE, Node
 from .items import OPERATION, ROW, STATES, Item, Items
 
 Group = frozenset[Item]
@@ -57,7 +57,7 @@ class Order:
         self.home = {number: k for k in self.order for number in self.computed[k]}
         for k in reversed(self.order):
             if not is_whole(plan.groups[k]):
-                Demand(self, k).settle()
+                self._settle(k)
 
     def _edges(self) -> dict[int, set[int]]:
         """Which groups each group needs before it."""
@@ -78,6 +78,78 @@ class Order:
                 raise NoOp("a cycle")
             order.append(ready)
         return order
+
+    def _settle(self, group: int) -> None:
+        """Finds all that a group computes and that earlier groups write for it."""
+        written, computed, seen, before = self.written[group], self.computed[group], set(), None
+        while before != (len(written), len(computed)):
+            before = len(written), len(computed)
+            for lit in [*written, *(self.items.rule(state) for one in list(computed) for state in self.items.components[one])]:
+                self._demand(group, lit, seen)
+
+    def _demand(self, group: int, lit: int, seen: set[int]) -> None:
+        """What a group reads for a literal: where it needs the states of an earlier block, that one writes a row."""
+        number, node = lit >> 1, self.graph.node(lit)
+        if number in seen:
+            return
+        seen.add(number)
+        if node.kind == CONST or node.is_leaf and node.kind != STATE:
+            return
+        if (other := self._other_row(group, number)) is not None:
+            if self.rank[other] > self.rank[group]:
+                raise NoOp("a row that comes later")
+            return
+        if self._is_cut(group, number):
+            return
+        below = node.args
+        if node.is_leaf:
+            component = self.items.component[node.ident]
+            if component in self.plan.again and component not in self.computed[group]:
+                self.computed[group].add(component)
+                below = map(self.items.rule, self.items.components[component])
+        for one in below:
+            self._demand(group, one, seen)
+
+    def _other_row(self, group: int, number: int) -> int | None:
+        """The other group in which a node stands in a row."""
+        other = self.where.get(self.row_of.get(number), group)
+        return None if other == group else other
+
+    def _is_cut(self, group: int, number: int) -> bool:
+        """Whether the node is read from a row that the group of its states writes."""
+        node, computed = self.graph.nodes[number], self.computed[group]
+        leaves = [self.graph.nodes[leaf] for leaf in self.graph.leaves[number]]
+        read = {self.items.component[leaf.ident] for leaf in leaves if leaf.kind == STATE}
+        if not read or any(one in computed or one in self.plan.again for one in read):
+            return False
+        if not node.is_leaf and (self._is_covered(group, number) or number in self.row_of):
+            return False
+        writer = max((self.home[one] for one in read), key=self.rank.__getitem__)
+        if self.rank[writer] < self.rank[group] and all(self._stands(leaf, writer) for leaf in leaves):
+            if not {2 * number, 2 * number + 1}.intersection(self.written[writer]):
+                self.written[writer].append(2 * number)
+            return True
+        if node.is_leaf:
+            raise NoOp("a state that no row can hold")
+        return False
+
+    def _stands(self, leaf: Node, group: int) -> bool:
+        """Whether a leaf is known before a group's block."""
+        if leaf.kind not in (LAST, WHOLE):
+            return True
+        maker = self.home[self.items.component[leaf.ident]] if leaf.kind == LAST else self.where[Item(OPERATION, leaf.ident)]
+        return self.rank[maker] < self.rank[group]
+
+    def _is_covered(self, group: int, number: int, is_top: bool = True) -> bool:
+        """Whether rows already give all that a node needs of other blocks."""
+        if not is_top:
+            earlier = (its for other, its in self.written.items() if self.rank[other] < self.rank[group])
+            if self._other_row(group, number) is not None or any({2 * number, 2 * number + 1}.intersection(its) for its in earlier):
+                return True
+        node = self.graph.nodes[number]
+        if node.is_leaf or node.kind == CONST:
+            return node.kind != STATE
+        return all(self._is_covered(group, arg >> 1, False) for arg in node.args)
 
 
 def needs(order: Order, item: Item) -> set[tuple[Item, bool]]:
@@ -110,90 +182,3 @@ def needs(order: Order, item: Item) -> set[tuple[Item, bool]]:
         elif node.kind == WHOLE:
             found.add((Item(OPERATION, node.ident), True))
     return found
-
-
-class Demand:
-    """What a group's block reads of others: where it needs the states of an earlier block, that one writes a row."""
-
-    def __init__(self, order: Order, group: int) -> None:
-        self.of, self.items, self.graph, self.group = order, order.items, order.graph, group
-        self.seen: set[int] = set()
-
-    def settle(self) -> None:
-        """Finds all that the group computes and that earlier groups write for it."""
-        written, computed = self.of.written[self.group], self.of.computed[self.group]
-        before = None
-        while before != (len(written), len(computed)):
-            before = len(written), len(computed)
-            for lit in list(written):
-                self._go(lit)
-            for component in list(computed):
-                self._component(component)
-
-    def _component(self, component: int) -> None:
-        for state in self.items.components[component]:
-            self._go(self.items.rule(state))
-
-    def _other_row(self, number: int) -> int | None:
-        """The other group in which a node stands in a row."""
-        item = self.of.row_of.get(number)
-        return self.of.where[item] if item is not None and self.of.where[item] != self.group else None
-
-    def _go(self, lit: int) -> None:
-        number, node = lit >> 1, self.graph.node(lit)
-        if number in self.seen:
-            return
-        self.seen.add(number)
-        if node.kind == CONST or node.is_leaf and node.kind != STATE:
-            return
-        if (other := self._other_row(number)) is not None:
-            if self.of.rank[other] > self.of.rank[self.group]:
-                raise NoOp("a row that comes later")
-            return
-        if self._is_cut(number):
-            return
-        if not node.is_leaf:
-            for arg in node.args:
-                self._go(arg)
-        else:
-            component = self.items.component[node.ident]
-            if component in self.of.plan.again and component not in self.of.computed[self.group]:
-                self.of.computed[self.group].add(component)
-                self._component(component)
-
-    def _is_cut(self, number: int) -> bool:
-        """Whether the node is read from a row that the group of its states writes."""
-        node, computed = self.graph.nodes[number], self.of.computed[self.group]
-        leaves = [self.graph.nodes[leaf] for leaf in self.graph.leaves[number]]
-        read = {self.items.component[leaf.ident] for leaf in leaves if leaf.kind == STATE}
-        if not read or any(one in computed or one in self.of.plan.again for one in read):
-            return False
-        if not node.is_leaf and (self._is_covered(number) or number in self.of.row_of):
-            return False
-        writer = max((self.of.home[one] for one in read), key=self.of.rank.__getitem__)
-        if self.of.rank[writer] < self.of.rank[self.group] and all(self._stands(leaf, writer) for leaf in leaves):
-            if not {2 * number, 2 * number + 1}.intersection(self.of.written[writer]):
-                self.of.written[writer].append(2 * number)
-            return True
-        if node.is_leaf:
-            raise NoOp("a state that no row can hold")
-        return False
-
-    def _stands(self, leaf: typing.Any, writer: int) -> bool:
-        """Whether a leaf is known before the writer's block."""
-        if leaf.kind == LAST:
-            return self.of.rank[self.of.home[self.items.component[leaf.ident]]] < self.of.rank[writer]
-        if leaf.kind == WHOLE:
-            return self.of.rank[self.of.where[Item(OPERATION, leaf.ident)]] < self.of.rank[writer]
-        return True
-
-    def _is_covered(self, number: int, is_top: bool = True) -> bool:
-        """Whether rows already give all that a node needs of other blocks."""
-        if not is_top:
-            earlier = (its for group, its in self.of.written.items() if self.of.rank[group] < self.of.rank[self.group])
-            if self._other_row(number) is not None or any({2 * number, 2 * number + 1}.intersection(its) for its in earlier):
-                return True
-        node = self.graph.nodes[number]
-        if node.is_leaf or node.kind == CONST:
-            return node.kind != STATE
-        return all(self._is_covered(arg >> 1, False) for arg in node.args)

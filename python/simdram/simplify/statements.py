@@ -3,9 +3,7 @@
 import typing
 
 from ..rules.op_tree import BIT, TO_BIT, WORD, Block, Body, Expr, WordStatement, gate, read
-from .gates import BIT as BIT_LEAF
 from .gates import WHOLE
-from .gates import WORD as WORD_LEAF
 from .items import Items
 from .plans import NoOp, Order, Plan
 
@@ -22,7 +20,7 @@ class Statements:
         self.body: Body = []
         op = self.lowered.op
         self.used = {name for name, _ in op.params + op.results}
-        self.standing = {self.graph.leaf(WORD_LEAF if kind == WORD else BIT_LEAF, name): name for name, kind in op.params}
+        self.standing = {self.graph.leaf(kind, name): name for name, kind in op.params}
         # words whose positions are all one bit
         self.spread: dict[int, str] = {}
         self.result_of: dict[int, tuple[str, str]] = {}
@@ -127,10 +125,8 @@ class Statements:
             return
         if node.kind == "xor" and lit & 1 and lit in self.result_of:
             op, given = "xor", [node.args[0] ^ 1, node.args[1]]
-        elif lit & 1 and node.kind != "and":
-            lit &= ~1
-            op, given = self.gate_form(lit)
         else:
+            lit = lit if node.kind == "and" else lit & ~1
             op, given = self.gate_form(lit)
         names = [self.bit(arg) for arg in given]
         self.call([self.name(lit, BIT)], op, names)
