@@ -6,13 +6,14 @@ from simdram.rules.op_tree import Block
 from simdram.rules.ops_rules import read_ops
 from simdram.simplify.statement_alone import OPTIMISM, Cost, guessed
 from simdram.simplify.measured import Measured
+from simdram.simplify.timed import Timed
 
 
 class Guessed(Measured):
     """Measures nothing."""
 
     def __init__(self, widths):
-        super().__init__("", widths)
+        super().__init__(Timed(""), widths)
 
     def _measure(self, statements):
         for one in statements:

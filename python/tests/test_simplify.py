@@ -21,10 +21,11 @@ from simdram.rules.ops_rules import read_ops
 from simdram.rules.verdicts import RIGHT, UNKNOWN
 from simdram.simplify import equal, simplify_tool, sums
 from simdram.simplify.equal import Comparer
-from simdram.simplify.simplifier import WRONG, Options, Simplifier
+from simdram.simplify.outcome import WRONG, Outcome
+from simdram.simplify.simplifier import Options, Simplifier
 from simdram.simplify.search import Search
 from simdram.simplify.statement_cache import StatementCache
-from simdram.simplify.measured import spent
+from simdram.simplify.timed import Timed, spent
 
 KERNELS = TOP / "bench" / "kernels"
 # those of the table that are always done; SIMDRAM_KERNELS=1 does all, and more random ops
@@ -39,6 +40,18 @@ def table():
     lines = (KERNELS / "costs").read_text(encoding="utf-8").splitlines()
     rows = (line.split() for line in lines if line and not line.startswith("#"))
     return {name: (int(eight), int(wide)) for name, eight, wide in rows}
+
+
+class Searcher(Simplifier):
+    """Finds texts, and compares none."""
+
+    def compared(self, found, until):
+        return Outcome(found)
+
+
+def searched(text, options):
+    """The best text that was found for each op, not compared."""
+    return [one.simpler for one in Searcher(program(), options).outcomes(text.encode())]
 
 
 def kernels():
@@ -88,12 +101,12 @@ class Simplified(unittest.TestCase):
         names = [name for name in ops if ALL or name in SOME]
         for k in range(0, len(names), 24):
             text = "".join(ops[name].text() for name in names[k:k + 24])
-            for one in Simplifier(program(), Options((8, 32), SLOW)).searched(text.encode()):
+            for one in searched(text, Options((8, 32), SLOW)):
                 with self.subTest(one.op.name):
                     self.assertTrue(one.is_whole)
                     self.assertLessEqual((one.after[8].commands, one.after[32].commands), costs[one.op.name])
                     new = dataclasses.replace(one.op, body=one.body)
-                    verdicts = Comparer(program()).equal(one.op, new, (1, 2, 3, 8), one.program).verdicts
+                    verdicts = Comparer(Timed(program())).equal(one.op, new, (1, 2, 3, 8), one.program).verdicts
                     self.assertEqual(set(verdicts.values()), {RIGHT})
 
     def test_a_text_of_ones_own(self):
@@ -118,7 +131,7 @@ class Simplified(unittest.TestCase):
         self.assertEqual(self.call(ops, new, "--widths", "8")[0], 0)
         text = pathlib.Path(new).read_text(encoding="utf-8")
         self.assertEqual(self.shown(new), text)
-        costs = Simplifier(program(), Options((8,), SLOW, compared=())).searched(text.encode())[0]
+        costs = searched(text, Options((8,), SLOW, compared=()))[0]
         self.assertLessEqual(costs.after[8].commands, costs.before[8].commands)
         self.assertEqual(self.call(new, again, "--widths", "8")[0], 0)
         self.shown(again)
@@ -126,7 +139,7 @@ class Simplified(unittest.TestCase):
     def test_rows_are_kept(self):
         text = kernels()["times5"].text()
         for keeps, check in ((False, self.assertGreater), (True, self.assertLessEqual)):
-            one = Simplifier(program(), Options((8,), SLOW, keeps, compared=())).searched(text.encode())[0]
+            one = searched(text, Options((8,), SLOW, keeps, compared=()))[0]
             check(one.after[8].rows, one.before[8].rows)
 
     def test_random_ops_are_equal(self):
@@ -138,7 +151,7 @@ class Simplified(unittest.TestCase):
             found = Search(op, measured, measured.of_text(op.text())[0]).run()
             new = dataclasses.replace(op, body=found.body)
             changed += found.is_changed
-            verdicts = Comparer(program()).equal(op, new, (1, 2, 3, 5)).verdicts if found.is_changed else {}
+            verdicts = Comparer(Timed(program())).equal(op, new, (1, 2, 3, 5)).verdicts if found.is_changed else {}
             self.assertNotIn("wrong", verdicts.values(), op.text() + new.text())
             self.assertEqual(set(verdicts.values()) - {RIGHT, UNKNOWN}, set())
         self.assertGreater(changed, RANDOM_OPS // 2)
@@ -177,9 +190,9 @@ class Simplified(unittest.TestCase):
     def test_products_are_compared_as_unknowns(self):
         old, new = (read_ops(f"op f(a: word, b: word, c: word) -> y: word {{ t = mul({pair}); {rest} }}".encode())[0] for pair, rest in
                     (("a, b", "y = add(t, c);"), ("b, a", "serial up (k = 0) { y = xor(t, xor(c, k)); k = maj(t, c, k); }")))
-        self.assertEqual(Comparer(program()).equal(old, new, (16,)), equal.Equality({16: RIGHT}, True))
+        self.assertEqual(Comparer(Timed(program())).equal(old, new, (16,)), equal.Equality({16: RIGHT}, True))
         wrong = read_ops(b"op f(a: word, b: word, c: word) -> y: word { t = mul(a, b); y = sub(t, c); }")[0]
-        self.assertEqual(Comparer(program()).equal(old, wrong, (1, 2)).at(WRONG), [2])
+        self.assertEqual(Comparer(Timed(program())).equal(old, wrong, (1, 2)).at(WRONG), [2])
 
     # how it ends
 

@@ -1,8 +1,6 @@
 """Whether two texts of an op are equal at widths: by the program's `verify`, for all inputs."""
 
 import contextlib
-import subprocess
-import threading
 import typing
 
 from ..files.store import folder_of
@@ -10,7 +8,7 @@ from ..launcher import run_program
 from ..rules.op_tree import Op
 from ..rules.verdicts import RIGHT, UNKNOWN, WRONG, verdicts_of
 from .cut import cut, has_nested
-from .measured import limits, spent
+from .timed import TimeOver, Timed
 
 # the statuses under which `verify` has a line for the op
 SAID = (0, 19, 20)
@@ -33,16 +31,13 @@ class Equality(typing.NamedTuple):
 class Comparer:
     """Compares texts by a program, up to a time in processor seconds."""
 
-    def __init__(self, program: str, until: float = float("inf"), stopped: threading.Event | None = None) -> None:
-        self.program, self.until, self.stopped, self.is_late = program, until, stopped or threading.Event(), False
+    def __init__(self, timed: Timed) -> None:
+        self.timed, self.is_late = timed, False
 
     def _run(self, words: typing.Sequence[typing.Any], folder: str) -> run_program.Ended | None:
         """The program's end, or nothing where the time is over."""
-        with contextlib.suppress(subprocess.TimeoutExpired):
-            if spent() < self.until and not self.stopped.is_set():
-                ended = run_program.run(words, folder, path=self.program, **limits(self.until))
-                if ended.status >= 0:
-                    return ended
+        with contextlib.suppress(TimeOver):
+            return self.timed.run(words, folder)
         self.is_late = True
         return None
 

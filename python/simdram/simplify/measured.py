@@ -1,9 +1,6 @@
 """What statements cost: each is measured once, in an op of its own, many to a call of the program."""
 
 import copy
-import os
-import subprocess
-import threading
 import typing
 
 from ..costs.costs import cost_of
@@ -11,24 +8,9 @@ from ..files.store import folder_of, load
 from ..launcher import run_program
 from ..launcher.parallel import in_parallel
 from ..rules.op_tree import BIT, WORD, Body, Op, made_by
-from .statement_alone import Alone, Cost, Costs, alone, guessed
+from .statement_alone import Alone, Cost, Costs, alone
 from .statement_cache import StatementCache
-
-# how many seconds of the clock a call may take for each processor second that is left, and at least
-SLACK, LEAST = 20, 10
-
-
-def spent() -> float:
-    """The processor seconds of this process and its ended calls: the same work takes as many on a busy machine."""
-    times = os.times()
-    return times.user + times.system + times.children_user + times.children_system
-
-
-def limits(until: float) -> dict[str, float]:
-    """What a call may take up to a time of `spent`: seconds of the clock and of the processor; nothing is no limit."""
-    left = max(0.0, until - spent())
-    return {} if until == float("inf") else {"seconds": LEAST + SLACK * left, "processor_seconds": left}
-
+from .timed import TimeOver, Timed
 
 # the status of `compile` where the text is refused
 REFUSED = 4
@@ -36,10 +18,6 @@ REFUSED = 4
 AT_ONCE = 8
 # widths at which a statement is always measured, so that it is known at them from then on
 ALSO = (4, 8, 16, 32)
-
-
-class TimeOver(Exception):
-    """The time that was given is over."""
 
 
 class Compiled(typing.NamedTuple):
@@ -50,10 +28,9 @@ class Compiled(typing.NamedTuple):
 
 
 class Parts(typing.NamedTuple):
-    """A body by its statements, a low guess at a position of each block, and how many words and bits it defines in scratch."""
+    """A body by its statements, and how many words and bits it defines in scratch."""
 
     statements: list[Alone]
-    guesses: list[float]
     words: int
     bits: int
 
@@ -61,38 +38,25 @@ class Parts(typing.NamedTuple):
 class Measured:
     """Costs of a program's compiler at widths, up to a time; what is measured once is kept."""
 
-    def __init__(self, program: str, widths: typing.Sequence[int], workers: int = 1, cache: StatementCache | None = None) -> None:
-        self.program, self.widths, self.workers = program, list(widths), workers
+    def __init__(self, timed: Timed, widths: typing.Sequence[int], workers: int = 1, cache: StatementCache | None = None) -> None:
+        self.timed, self.widths, self.workers = timed, list(widths), workers
         # of each statement its own commands and scratch rows at each width; None where it is refused
         self.kept: dict[Alone, Costs | None] = {}
         self.cache = cache.kept if cache else {}
-        self.until = float("inf")
-        self.stopped = threading.Event()
         # what this search has asked for: its guesses do not depend on what others have measured
         self.asked: set[Alone] = set()
 
     def until_then(self, until: float) -> "Measured":
         """The same, with what is kept, up to another time, for another search."""
         other = copy.copy(self)
-        other.until, other.asked = until, set()
+        other.timed, other.asked = self.timed.until_then(until), set()
         return other
 
     def run(self, words: typing.Sequence[typing.Any], folder: str) -> run_program.Ended:
-        self.check_time()
-        try:
-            ended = run_program.run(words, folder, path=self.program, **limits(self.until))
-        except subprocess.TimeoutExpired:
-            raise TimeOver from None
-        if ended.status < 0:
-            raise TimeOver
+        ended = self.timed.run(words, folder)
         if ended.status != REFUSED:
             ended.check(words[0])
         return ended
-
-    def check_time(self) -> None:
-        """Raises if the time is over, or the work was stopped."""
-        if self.stopped.is_set() or spent() >= self.until:
-            raise TimeOver
 
     def of_text(self, text: str, also: typing.Iterable[int] = ()) -> list[Costs] | None:
         """Of each op of a text its costs; nothing where the text is refused or an op is stuck."""
@@ -127,14 +91,13 @@ class Measured:
 
     def parts(self, op: Op, body: Body) -> Parts:
         """A body's statements, and how many words and bits they define besides the results."""
-        kinds, found, guesses, counts = dict(op.params + op.results), [], [], {WORD: 0, BIT: 0}
+        kinds, found, counts = dict(op.params + op.results), [], {WORD: 0, BIT: 0}
         for one in body:
             for name, kind in made_by(one, kinds):
                 counts[kind] += name not in kinds
                 kinds[name] = kind
             found.append(alone(one, kinds))
-            guesses.append(guessed(one, kinds))
-        return Parts(found, guesses, counts[WORD], counts[BIT])
+        return Parts(found, counts[WORD], counts[BIT])
 
     def guess(self, parts: Parts) -> Costs | None:
         """The costs of a body: the sum over its statements, which share scratch rows; what was not measured is guessed, low.
@@ -142,8 +105,8 @@ class Measured:
         Nothing where a statement is refused.
         """
         total = {n: Cost(0, 0) for n in self.widths}
-        for one, each in zip(parts.statements, parts.guesses):
-            costs = self.kept[one] if one in self.asked else {n: Cost(int(each * n), 0) for n in self.widths}
+        for one in parts.statements:
+            costs = self.kept[one] if one in self.asked else {n: Cost(int(one.guess * n), 0) for n in self.widths}
             if costs is None:
                 return None
             total = {n: Cost(its.commands + costs[n].commands, max(its.rows, costs[n].rows)) for n, its in total.items()}

@@ -7,11 +7,12 @@ from ..rules.op_tree import Body, Op, body_text
 from .blocks import written
 from .items import Items
 from .lowering import Lowered
-from .measured import AT_ONCE, Measured, Parts, TimeOver
+from .measured import AT_ONCE, Measured, Parts
 from .moves import moves, spellings, starts
 from .plans import NoOp, Plan
 from .spelling import STYLES
 from .statement_alone import Costs
+from .timed import TimeOver
 
 ROUNDS = 2
 # how many drawn orders of the arguments of and, or are tried for each block of the best plan
@@ -30,6 +31,18 @@ class Found(typing.NamedTuple):
     score: Score
     body: Body | None
     plan: Plan | None
+
+
+class Attempt(typing.NamedTuple):
+    """The best plan with some forms of the operations, the graph that these give, and which of its options each is."""
+
+    best: Found
+    lowered: Lowered
+    choice: list[int]
+
+    def forms(self, k: int) -> int:
+        """How many forms there are of an operation."""
+        return len(self.lowered.options[k][1]) if k < len(self.choice) else 0
 
 
 class Candidate(typing.NamedTuple):
@@ -83,7 +96,7 @@ class Search:
         """The plans that are ops, those first that are guessed to be the least."""
         found = []
         for plan in plans:
-            self.measured.check_time()
+            self.measured.timed.check_time()
             with contextlib.suppress(NoOp):
                 body = written(items, plan)
                 parts = self.measured.parts(self.op, body)
@@ -129,41 +142,35 @@ class Search:
             best = found
         return best
 
-    def attempt(self, choice: typing.Sequence[int]) -> tuple[Found, Lowered]:
+    def attempt(self, choice: list[int]) -> Attempt:
         """The best plan with some forms of the operations; a start that is far from the best so far is left out."""
         lowered = Lowered(self.op, choice)
         items, best = Items(lowered), Found(WORST, None, None)
         near = [one for one in self.candidates(items, starts(items)) if one.guess <= self.best.score[0] * FAR]
         for start in sorted(self._measured(near), key=lambda one: one.score):
             best = min(best, self.climb(items, start), key=lambda one: one.score)
-        return best, lowered
+        return Attempt(best, lowered, (choice + [0] * len(lowered.options))[:len(lowered.options)])
 
     def over_forms(self) -> None:
         """Tries the forms of operations: one for all, then each by itself."""
-        best, lowered = self.attempt([])
-        choice = [0] * len(lowered.options)
-        most = max((len(names) for _, names in lowered.options), default=1)
-        for number in range(1, most):
-            trial = [min(number, len(names) - 1) for _, names in lowered.options]
-            best, lowered, choice = self._better(trial, best, lowered, choice)
+        best = self.attempt([])
+        for number in range(1, max(map(best.forms, range(len(best.choice))), default=1)):
+            best = self._better(best, [min(number, best.forms(k) - 1) for k in range(len(best.choice))])
         for _ in range(ROUNDS):
             before = best
-            for k in range(len(choice)):
-                for number in range(len(lowered.options[k][1]) if k < min(len(choice), len(lowered.options)) else 0):
-                    if k < len(choice) and number != choice[k]:
-                        trial = [*choice[:k], number, *choice[k + 1:]]
-                        best, lowered, choice = self._better(trial, best, lowered, choice)
+            for k in range(len(best.choice)):
+                for number in range(best.forms(k)):
+                    if k < len(best.choice) and number != best.choice[k]:
+                        best = self._better(best, [*best.choice[:k], number, *best.choice[k + 1:]])
             if best is before:
                 break
         # the spellings of the best: its choices, its states' polarity, and blocks where word statements do
-        self.climb(Items(lowered), best, lambda items, plan: spellings(items, plan, range(STYLES + DRAWN)))
+        self.climb(Items(best.lowered), best.best, lambda items, plan: spellings(items, plan, range(STYLES + DRAWN)))
 
-    def _better(self, trial: list[int], best: Found, lowered: Lowered, choice: list[int]) -> tuple[Found, Lowered, list[int]]:
-        """The trial where it is better, else what was found before."""
-        found, other = self.attempt(trial)
-        if found.score >= best.score:
-            return best, lowered, choice
-        return found, other, (trial + [0] * len(other.options))[:len(other.options)]
+    def _better(self, best: Attempt, choice: list[int]) -> Attempt:
+        """The attempt with a choice where it is better, else the one so far."""
+        found = self.attempt(choice)
+        return found if found.best.score < best.best.score else best
 
     def run(self) -> Simpler:
         """The op with the best text that was found in the time, measured as a whole; else as it was."""

@@ -29,7 +29,8 @@ from ..launcher.widths import widths_of
 from ..launcher.words import wrong_number
 from ..optimise.search import fewest
 from ..rules import answers
-from .simplifier import SECONDS, WRONG, Options, Simplifier, new_text
+from .outcome import WRONG, new_text
+from .simplifier import SECONDS, Options, Simplifier
 
 FAULTY = 1
 WIDTHS = "4,8,16,32"
@@ -96,5 +97,5 @@ def main(asked: Asked) -> int:
         if one.kind == WRONG:
             print(f"as it was:\n{before.decode('utf-8', 'replace')}\nas it was simplified:\n{one.simpler.text}", end="", file=sys.stderr)
     if asked.width:
-        write_program(simplifier.program, asked, data, text, asked.settings)
+        write_program(simplifier.timed.program, asked, data, text, asked.settings)
     return FAULTY if any(one.kind == WRONG for one in outcomes) else 0

@@ -23,11 +23,13 @@ Costs = dict[int, Cost]
 
 
 class Alone(typing.NamedTuple):
-    """A statement with names by their places: its text, and the kinds of what it reads and of what it defines."""
+    """A statement with names by their places: its text, the kinds of what it reads and of what it defines, and a low guess at the
+    commands of a position."""
 
     text: str
     reads: tuple[str, ...]
     makes: tuple[str, ...]
+    guess: float
 
     @property
     def key(self) -> str:
@@ -103,7 +105,7 @@ def alone(one: Statement, kinds: typing.Mapping[str, str]) -> Alone:
     made = dict(made_by(one, kinds))
     own = set(made) if isinstance(one, WordStatement) else {*made, *dict(one.lets)}
     reads = tuple(f"{place}: {kinds[name]}" for name, place in names.items() if name not in own)
-    return Alone(body_text([plain]), reads, tuple(made.values()))
+    return Alone(body_text([plain]), reads, tuple(made.values()), guessed(one, kinds))
 
 
 # commands of a position, fitted by least squares on measured blocks of bench/kernels
