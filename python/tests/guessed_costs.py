@@ -23,6 +23,6 @@ class Guessed(Measured):
                 each = guessed(statement, kinds) / (OPTIMISM if isinstance(statement, Block) else 1)
                 self.kept[one] = {n: Cost(int(each * n) + 1, 0) for n in self.widths}
 
-    def of_text(self, text, also=()):
+    def of_text(self, text):
         op = read_ops(text.encode())[0]
         return self.of_parts([self.parts(op, op.body)])

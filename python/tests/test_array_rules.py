@@ -7,7 +7,7 @@ from support import needs_numpy, numpy
 
 if numpy is not None:
     from simdram.arrays.expressions import Constant, Held, Result, Value, in_order, step
-    from simdram.arrays.layout import Layout, Product, Slice, bits_of, extended, joined, moved_down, moved_up, product_of
+    from simdram.arrays.layout import Layout, Product, Slice, bits_of, extended, joined, laid, shifted
     from simdram.arrays.operations import BIT, BLOCKS, OPERATIONS, WORD
     from simdram.arrays.simplify import simplified
 
@@ -74,8 +74,8 @@ class Drawn:
         low = self.dice.randrange(one.bits)
         self.wide.append(self.dice.choice((
             lambda: bits_of(one, low, self.dice.randint(1, one.bits - low)), lambda: bits_of(one, low, 1),
-            lambda: joined([(two, two.bits), (bits_of(one, low, 1, BIT), 3), (one, one.bits)]), lambda: product_of(one, two, one.bits + two.bits),
-            lambda: moved_up(one, low), lambda: moved_down(one, low, False), lambda: moved_down(one, low, True)))())
+            lambda: joined([(two, two.bits), (bits_of(one, low, 1, BIT), 3), (one, one.bits)]), lambda: laid(Product(), (one, two), one.bits + two.bits),
+            lambda: shifted(one, low, False), lambda: shifted(one, -low, False), lambda: shifted(one, -low, True)))())
         self.flags.append(bits_of(one, low, 1, BIT))
         self.words.append(extended(self.wide[-1], bits, self.dice.random() < 0.5))
 

@@ -8,12 +8,10 @@ import numpy
 from . import cells
 from .array import Array
 from .expressions import Constant
-from .layout import bits_of, joined, product_of
-from .operations import BIT, OPERATIONS, WORD, Operation
-from .operators import arrays_of, both, compared, is_signed, results_of, shape_of, where
+from .layout import Join, Product, bits_of, joined, laid
+from .operations import BIT, OPERATIONS
+from .operators import arrays_of, both, compared, has_bits, is_signed, result_of, shape_of, stepped, where
 from .refusals import Refused
-
-CONCAT, PRODUCT = Operation("concat", (), (WORD,)), Operation("product", (WORD, WORD), (WORD,))
 
 
 def apply(name: str, *operands: typing.Any) -> Array | tuple[Array, ...]:
@@ -23,7 +21,7 @@ def apply(name: str, *operands: typing.Any) -> Array | tuple[Array, ...]:
     """
     if name not in OPERATIONS:
         raise Refused("unknown", f"no word operation is called {name}: there are {', '.join(sorted(OPERATIONS))}")
-    results = results_of(name, *operands)
+    results = stepped(OPERATIONS[name], operands)
     return results[0] if len(results) == 1 else results
 
 
@@ -39,7 +37,7 @@ def maximum(first: typing.Any, second: typing.Any) -> Array:
 
 def extreme(of_bits: str, of_words: str, first: typing.Any, second: typing.Any) -> Array:
     """The lesser or the greater: by a gate of truth values, by a comparison of signed arrays."""
-    if any(isinstance(one, Array) and one.is_bit for one in (first, second)):
+    if has_bits(first, second):
         return apply(of_bits, first, second)
     first, second = arrays_of(OPERATIONS[of_words], (first, second))
     if not is_signed(of_words, (first, second)):
@@ -57,9 +55,9 @@ def bit(array: Array, place: int) -> Array:
 
 def concat(*operands: typing.Any) -> Array:
     """Words whose lowest bits are those of the first array, with those of the others above them."""
-    arrays = arrays_of(CONCAT, operands)
+    arrays = arrays_of(Join(()), operands)
     cells.checked_width(sum(one.bits for one in arrays))
-    return arrays[0].of_value(shape_of(CONCAT, arrays), joined([(one.value, one.bits) for one in arrays]), False)
+    return arrays[0].of_value(shape_of(Join(()), arrays), joined([(one.value, one.bits) for one in arrays]), False)
 
 
 def bitcount(array: Array) -> Array:
@@ -72,15 +70,15 @@ def product(first: typing.Any, second: typing.Any, bits: int | None = None) -> A
 
     Of unsigned arrays it is made row by row, for fewer commands than a product of widened factors takes.
     """
-    arrays = arrays_of(PRODUCT, (first, second))
-    if any(one.is_bit for one in arrays):
+    arrays = arrays_of(Product(), (first, second))
+    if has_bits(*arrays):
         raise Refused("kind", "product takes words, and not truth values")
-    shape, signed = shape_of(PRODUCT, arrays), is_signed("product", arrays)
+    shape, signed = shape_of(Product(), arrays), is_signed("product", arrays)
     size = cells.checked_width(bits or sum(one.bits for one in arrays))
     if signed or size < sum(one.bits for one in arrays) or any(isinstance(one.value.origin, Constant) for one in arrays):
         return arrays[0].astype(bits=size) * arrays[1].astype(bits=size)
     values = sorted((one.value for one in arrays), key=lambda one: -one.bits)
-    return arrays[0].of_value(shape, product_of(*values, size), False)
+    return arrays[0].of_value(shape, laid(Product(), values, size), False)
 
 
 def of_arrays(function: typing.Callable) -> typing.Callable:
@@ -92,7 +90,7 @@ def of_truth(name: str) -> typing.Callable:
     """A gate on one or two truth values, where a number is true that is not 0."""
     def gate(*operands: typing.Any) -> Array:
         arrays = both(*operands) if len(operands) == 2 else operands
-        return results_of(name, *(one if one.is_bit else one != 0 for one in arrays))[0]
+        return result_of(name, *(one if one.is_bit else one != 0 for one in arrays))
     return gate
 
 

@@ -38,42 +38,34 @@ class Product(typing.NamedTuple):
 Layout = (Slice, Join, Product)
 
 
+def laid(operation: Slice | Join | Product, arguments: typing.Sequence[Value], size: int) -> Value:
+    """The result of so many bits of one of these operations."""
+    return Step(operation, arguments, size, operation.gives).results[0]
+
+
 def bits_of(value: Value, low: int, size: int, kind: str = WORD) -> Value:
     """So many bits of a value, from the bit `low` on."""
-    return Step(Slice(low, kind), (value,), size, (kind,)).results[0]
+    return laid(Slice(low, kind), (value,), size)
 
 
-def joined(pieces: typing.Sequence[tuple[Value, int]]) -> Value:
+def joined(pieces: typing.Sequence["Piece"]) -> Value:
     """Values of these sizes, the lowest bits first."""
-    sizes = tuple(size for _, size in pieces)
-    return Step(Join(sizes), tuple(value for value, _ in pieces), sum(sizes), (WORD,)).results[0]
-
-
-def zeros(size: int) -> tuple[Value, int]:
-    return Value(WORD, size, Constant(0)), size
+    return laid(Join(tuple(size for _, size in pieces)), [value for value, _ in pieces], sum(size for _, size in pieces))
 
 
 def extended(value: Value, size: int, signed: bool) -> Value:
     """A value at a width that is not its own: its lowest bits, or all of them below zeros or its top bit."""
-    if size <= value.bits:
-        return bits_of(value, 0, size)
     more = size - value.bits
-    return joined([(value, value.bits), (bits_of(value, value.bits - 1, 1, BIT), more) if signed else zeros(more)])
+    if more <= 0:
+        return bits_of(value, 0, size)
+    above = bits_of(value, value.bits - 1, 1, BIT) if signed else Value(WORD, more, Constant(0))
+    return joined([(value, value.bits), (above, more)])
 
 
-def moved_up(value: Value, places: int) -> Value:
-    """A value after a shift up by so many places, which are fewer than its bits."""
-    return joined([zeros(places), (bits_of(value, 0, value.bits - places), value.bits - places)])
-
-
-def moved_down(value: Value, places: int, signed: bool) -> Value:
-    """A value after a shift down by so many places, below zeros or its top bit."""
-    return extended(bits_of(value, places, value.bits - places), value.bits, signed)
-
-
-def product_of(first: Value, second: Value, size: int) -> Value:
-    """The product of two words, with zeros above it up to a width."""
-    return Step(Product(), (first, second), size, (WORD,)).results[0]
+def shifted(value: Value, places: int, signed: bool) -> Value:
+    """A value after a shift by fewer places than its bits, up; or down where they are below 0, below zeros or its top bit."""
+    kept = bits_of(value, max(-places, 0), value.bits - abs(places))
+    return extended(kept, value.bits, signed) if places < 0 else joined([(Value(WORD, places, Constant(0)), places), (kept, kept.bits)])
 
 
 def layout_of(value: Value, kind: type) -> Step | None:

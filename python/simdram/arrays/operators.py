@@ -27,6 +27,11 @@ def of_two(name: str) -> tuple[Operator, Operator]:
     return both_ways(lambda first, second: result_of(name, first, second))
 
 
+def comparison(name: str) -> tuple[Operator, Operator]:
+    """A comparison of two operands, with them in the other order too."""
+    return both_ways(lambda first, second: compared(name, first, second))
+
+
 def multiplied(first: typing.Any, second: typing.Any) -> typing.Any:
     """The product of two matrices."""
     from .summing import matmul
@@ -67,23 +72,12 @@ class Operators:
     def __rshift__(self, places):
         return shifted(self, places, is_up=False)
 
-    def __eq__(self, other):
-        return ~result_of("xor", self, other) if self.is_bit else result_of("eq", self, other)
+    __eq__ = comparison("eq")[0]
+    __gt__, __lt__ = comparison("gt")
+    __ge__, __le__ = comparison("ge")
 
     def __ne__(self, other):
-        return result_of("xor", self, other) if self.is_bit else ~result_of("eq", self, other)
-
-    def __gt__(self, other):
-        return self & ~both(self, other)[1] if self.is_bit else compared("gt", self, other)
-
-    def __ge__(self, other):
-        return self | ~both(self, other)[1] if self.is_bit else compared("ge", self, other)
-
-    def __lt__(self, other):
-        return ~self & other if self.is_bit else compared("gt", other, self)
-
-    def __le__(self, other):
-        return ~self | other if self.is_bit else compared("ge", other, self)
+        return ~(self == other)
 
 
 def result_of(name: str, *operands: typing.Any) -> typing.Any:
@@ -96,20 +90,28 @@ def both(first: typing.Any, second: typing.Any) -> list[typing.Any]:
     return arrays_of(OPERATIONS["and"], (first, second))
 
 
+def has_bits(*operands: typing.Any) -> bool:
+    """Whether an operand is an array of truth values."""
+    return any(isinstance(one, Operators) and one.is_bit for one in operands)
+
+
 def compared(name: str, first: typing.Any, second: typing.Any) -> typing.Any:
-    """`gt` or `ge` of two arrays of words, in signed order where they are signed."""
+    """`eq`, `gt` or `ge` of two arrays: by gates where they are truth values, in signed order where they are signed."""
+    if has_bits(first, second):
+        x, y = both(first, second)
+        return ~(x ^ y) if name == "eq" else x & ~y if name == "gt" else x | ~y
     arrays = arrays_of(OPERATIONS[name], (first, second))
-    return result_of(f"signed_{name}", *arrays) if is_signed(name, arrays) else result_of(name, *arrays)
+    return result_of(f"signed_{name}" if name != "eq" and is_signed(name, arrays) else name, *arrays)
 
 
 def divided(first: typing.Any, second: typing.Any) -> tuple[typing.Any, ...]:
     """Quotient and remainder; of signed arrays they are rounded as Python's, the remainder has the divisor's sign."""
     arrays = arrays_of(OPERATIONS["divmod"], (first, second))
     if not is_signed("divmod", arrays):
-        return results_of("divmod", *arrays)
+        return stepped(OPERATIONS["divmod"], arrays)
     dividend, divisor = arrays
     is_opposite = result_of("sign", dividend) ^ result_of("sign", divisor)
-    quotient, rest = results_of("divmod", *(result_of("abs", one) for one in arrays))
+    quotient, rest = stepped(OPERATIONS["divmod"], [result_of("abs", one) for one in arrays])
     is_inexact = rest != 0
     floor = where(is_opposite & is_inexact, ~quotient, where(is_opposite, -quotient, quotient))
     least = where(is_opposite & is_inexact, result_of("abs", divisor) - rest, rest)
@@ -131,13 +133,8 @@ def shifted(array: typing.Any, places: typing.Any, is_up: bool = True) -> typing
     count = min(count, array.bits - 1)
     if count < 2 and not is_signed_down:
         return result_of("shl1" if is_up else "shr1", array) if count else array
-    value = layout.moved_up(array.value, count) if is_up else layout.moved_down(array.value, count, array.signed)
+    value = layout.shifted(array.value, count if is_up else -count, array.signed)
     return array.of_value(array.shape, value, array.signed) if count else array
-
-
-def results_of(name: str, *operands: typing.Any) -> tuple[typing.Any, ...]:
-    """The results of a word operation, as arrays that are computed when they are looked at."""
-    return stepped(OPERATIONS[name], operands)
 
 
 def stepped(operation: typing.Any, operands: typing.Sequence[typing.Any],

@@ -8,7 +8,8 @@ from . import cells
 from .array import Array
 from .costing import Cost
 from .expressions import Constant, Value
-from .functions import PRODUCT, product
+from .functions import product
+from .layout import Product
 from .operators import arrays_of
 from .running import Made
 
@@ -59,7 +60,7 @@ def matmul(first: typing.Any, second: typing.Any, bits: int | None = None) -> Ar
 
     The host reads both and places a pair of objects for each place on the inner axis; the chip multiplies and adds.
     """
-    first, second = arrays_of(PRODUCT, (first, second))
+    first, second = arrays_of(Product(), (first, second))
     x, y = first.numpy(), second.numpy()
     if not 2 < x.ndim + y.ndim < 5 or max(x.ndim, y.ndim) > 2 or x.shape[-1] != y.shape[0]:
         raise ValueError(f"no product of matrices has the shapes {x.shape} and {y.shape}")

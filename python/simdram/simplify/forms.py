@@ -82,9 +82,9 @@ class Forms(Sums):
     def chain(self, lit: int) -> None:
         """Makes a choice among words by bits a chain of choices, where it is one: the node's gate is replaced."""
         graph = self.graph
-        words = [leaf for leaf in sorted(graph.leaves[lit >> 1]) if graph.nodes[leaf].kind in (WORD, WHOLE)]
-        if lit < 2 or graph.node(lit).is_leaf or len(graph.support[lit >> 1]) > CHAIN_LEAVES or len(words) < 2 \
-                or any(graph.nodes[leaf].kind == STATE for leaf in graph.leaves[lit >> 1]):
+        words = [leaf for leaf in sorted(graph.node(lit).leaves) if graph.nodes[leaf].kind in (WORD, WHOLE)]
+        if lit < 2 or graph.node(lit).is_leaf or len(graph.node(lit).support) > CHAIN_LEAVES or len(words) < 2 \
+                or any(leaf.kind == STATE for leaf in graph.reached(lit)):
             return
         picks = {word: replaced(self.graph, lit, {2 * one: int(one == word) for one in words}, {}) for word in words}
         if found := [one for one in (self._chain_by(lit, words, picks, k) for k in range(len(words))) if one]:
@@ -95,7 +95,7 @@ class Forms(Sums):
     def _chain_by(self, lit: int, words: list[int], picks: dict[int, int], k: int) -> tuple[int, int, int, int] | None:
         """The chain that ends with word k: its size, and its first choice."""
         graph = self.graph
-        others = sorted((word for word in words if word != words[k]), key=lambda word: len(graph.leaves[picks[word] >> 1]))
+        others = sorted((word for word in words if word != words[k]), key=lambda word: len(graph.node(picks[word]).leaves))
         inner = 2 * words[k]
         for word in others[:0:-1]:
             inner = graph.gate("mux", picks[word], 2 * word, inner)

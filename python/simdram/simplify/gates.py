@@ -43,12 +43,19 @@ def smallest(table: int, leaves: Leaves) -> tuple[int, Leaves]:
 
 
 class Node(typing.NamedTuple):
-    """A leaf with what it is, or a gate with its arguments."""
+    """A leaf with what it is, or a gate with its arguments.
+
+    `leaves` are those that its gates reach; of these `support` has those that make a difference, or all where there are many, and
+    `table` is the table over them, where there are few.
+    """
 
     kind: str
     args: tuple[int, ...] = ()
     ident: typing.Any = None
     place: int = 0
+    leaves: frozenset[int] = frozenset()
+    support: Leaves = ()
+    table: int | None = None
 
     @property
     def is_leaf(self) -> bool:
@@ -76,15 +83,9 @@ class Graph:
     """Nodes, states and whole operations, each once."""
 
     def __init__(self) -> None:
-        self.nodes: list[Node] = [Node(CONST)]
-        # of each node: the leaves that make a difference (or all, where there are many) and the table over them,
-        # and the leaves that its gates reach
-        self.support: list[Leaves] = [()]
-        self.table: list[int | None] = [0]
-        self.leaves: list[frozenset[int]] = [frozenset()]
-        self.by_leaf: dict[tuple, int] = {}
-        self.by_table: dict[tuple, int] = {((), 0): 0}
-        self.by_gate: dict[tuple, int] = {}
+        self.nodes: list[Node] = [Node(CONST, table=0)]
+        # the literals of leaves, of gates in their normal form, and of tables
+        self.known: dict[tuple, int] = {((), 0): 0}
         self.states: list[StateRule] = []
         self.wholes: list[Form] = []
         self.forms: dict[int, list[Form]] = {}
@@ -93,19 +94,11 @@ class Graph:
         return self.nodes[lit >> 1]
 
     def leaf(self, kind: str, ident: typing.Any, place: int = 0) -> int:
-        key = (kind, ident, place)
-        if key not in self.by_leaf:
-            number = self._new(Node(kind, (), ident, place))
-            self.support[number], self.table[number], self.leaves[number] = (number,), 2, frozenset((number,))
-            self.by_leaf[key] = self.by_table[(number,), 2] = 2 * number
-        return self.by_leaf[key]
-
-    def _new(self, node: Node) -> int:
-        self.nodes.append(node)
-        self.support.append(())
-        self.table.append(None)
-        self.leaves.append(frozenset().union(*(self.leaves[lit >> 1] for lit in node.args)))
-        return len(self.nodes) - 1
+        key, number = (kind, ident, place), len(self.nodes)
+        if key not in self.known:
+            self.nodes.append(Node(kind, (), ident, place, frozenset((number,)), (number,), 2))
+            self.known[key] = self.known[(number,), 2] = 2 * number
+        return self.known[key]
 
     def gate(self, kind: str, *args: int) -> int:
         """The literal of a gate: not, and, or, xor, maj, or mux (the second where the first is 1, else the third)."""
@@ -118,9 +111,9 @@ class Graph:
             return normal
         ordered, flip = normal
         key = (kind, *(ordered if kind == "mux" else sorted(ordered)))
-        if key not in self.by_gate:
-            self.by_gate[key] = self._made(kind, ordered)
-        return self.by_gate[key] ^ flip
+        if key not in self.known:
+            self.known[key] = self._made(kind, ordered)
+        return self.known[key] ^ flip
 
     @staticmethod
     def _and(*args: int) -> Normal:
@@ -163,25 +156,21 @@ class Graph:
 
     def _made(self, kind: str, args: tuple[int, ...]) -> int:
         """The literal of a gate in its normal form: one that stands, where it has the same truth table."""
-        leaves = tuple(sorted(set().union(*(self.support[lit >> 1] for lit in args))))
-        if len(leaves) > LEAVES:
-            number = self._new(Node(kind, args))
-            self.support[number] = leaves
-            return 2 * number
-        table = GATE_VALUES[kind](*(self._over(lit, leaves) for lit in args))
-        table, leaves = smallest(table, leaves)
-        flip = table & 1
-        key = leaves, table ^ (full(len(leaves)) if flip else 0)
-        if key in self.by_table:
-            return self.by_table[key] ^ flip
-        number = self._new(Node(kind, args))
-        self.support[number], self.table[number] = leaves, table
-        self.by_table[key] = 2 * number ^ flip
-        return 2 * number
+        below, lit = [self.node(arg) for arg in args], 2 * len(self.nodes)
+        leaves, table = tuple(sorted(set().union(*(one.support for one in below)))), None
+        if len(leaves) <= LEAVES:
+            table, leaves = smallest(GATE_VALUES[kind](*(self._over(arg, leaves) for arg in args)), leaves)
+            flip = table & 1
+            key = leaves, table ^ (full(len(leaves)) if flip else 0)
+            if key in self.known:
+                return self.known[key] ^ flip
+            self.known[key] = lit ^ flip
+        self.nodes.append(Node(kind, args, None, 0, frozenset().union(*(one.leaves for one in below)), leaves, table))
+        return lit
 
     def _over(self, lit: int, leaves: Leaves) -> int:
         """The table of a literal over more leaves."""
-        found = over(self.table[lit >> 1], self.support[lit >> 1], leaves)
+        found = over(self.node(lit).table, self.node(lit).support, leaves)
         return found ^ full(len(leaves)) if lit & 1 else found
 
     def new_state(self) -> int:
@@ -195,6 +184,10 @@ class Graph:
         now = self.leaf(STATE, number) ^ start
         self.states[number] = StateRule(direction, next_of(now) ^ start)
         return now
+
+    def reached(self, lit: int) -> list[Node]:
+        """The leaves that a literal reaches through gates."""
+        return [self.nodes[leaf] for leaf in self.node(lit).leaves]
 
     def last(self, state: int) -> int:
         """The last value of a state, by the state's literal."""
@@ -282,6 +275,6 @@ def settle(graph: Graph, values: Values) -> typing.Callable[[int], int]:
             graph.form(now(lit), form.op, *map(now, form.args))
     for number in {graph.node(lit).ident for lit in values.values() if lit > 1}:
         direction, after = graph.states[number]
-        if graph.leaf(STATE, number) >> 1 not in graph.leaves[after >> 1] and direction in ("up", "down"):
+        if graph.leaf(STATE, number) >> 1 not in graph.node(after).leaves and direction in ("up", "down"):
             graph.form(graph.leaf(STATE, number), "shl1" if direction == "up" else "shr1", after)
     return now

@@ -43,8 +43,7 @@ class Items:
         yield from (lit for _, kind, lit in results if kind == WORD and self.needs_row(lit))
         todo = [lit for _, _, lit in results]
         while todo:
-            for leaf in graph.leaves[todo.pop() >> 1]:
-                node = graph.nodes[leaf]
+            for node in graph.reached(todo.pop()):
                 if node.kind == LAST:
                     self.read_last.add(node.ident)
                 if node.kind in (STATE, LAST) and node.ident not in self.needed:
@@ -63,8 +62,7 @@ class Items:
     def _join(self) -> None:
         """States that read each other are one component."""
         graph = self.graph
-        reach = {state: {graph.nodes[leaf].ident for leaf in graph.leaves[self.rule(state) >> 1]
-                         if graph.nodes[leaf].kind == STATE} for state in self.needed}
+        reach = {state: {leaf.ident for leaf in graph.reached(self.rule(state)) if leaf.kind == STATE} for state in self.needed}
         for middle in reach:
             for state in reach:
                 if middle in reach[state]:
@@ -94,4 +92,4 @@ class Items:
 
     def bits_only(self, lit: int) -> bool:
         """Whether a literal is of bits and last values alone."""
-        return lit > 1 and all(self.graph.nodes[leaf].kind in (BIT, LAST) for leaf in self.graph.leaves[lit >> 1])
+        return lit > 1 and all(leaf.kind in (BIT, LAST) for leaf in self.graph.reached(lit))

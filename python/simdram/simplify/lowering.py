@@ -77,9 +77,9 @@ class Lowered(Forms):
         if node.kind not in ("and", "xor") or not {now, now ^ 1}.intersection(node.args):
             return False
         own, other = sorted(node.args, key=lambda arg: arg >> 1 != now >> 1)
-        if any(graph.nodes[leaf].kind == STATE for leaf in graph.leaves[other >> 1]):
+        if any(leaf.kind == STATE for leaf in graph.reached(other)):
             return False
-        is_read = any(now >> 1 in graph.leaves[lit >> 1] for lit in others)
+        is_read = any(now >> 1 in graph.node(lit).leaves for lit in others)
         return not is_read and (node.kind == "xor" or (own ^ after) & 1 == 0)
 
     def _expr(self, expr: Expr, inside: typing.Mapping[str, int]) -> int:

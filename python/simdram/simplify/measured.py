@@ -58,11 +58,6 @@ class Measured:
             ended.check(words[0])
         return ended
 
-    def of_text(self, text: str, also: typing.Iterable[int] = ()) -> list[Costs] | None:
-        """Of each op of a text its costs; nothing where the text is refused or an op is stuck."""
-        found = self.compiled(text, also)
-        return found.costs if found else None
-
     def compiled(self, text: str, also: typing.Iterable[int] = ()) -> Compiled | None:
         """The program file of a text and the costs of its ops; nothing where the text is refused or an op is stuck."""
         with folder_of(ops=text.encode()) as folder:
@@ -84,10 +79,6 @@ class Measured:
         self._measure([one for parts in bodies for one in parts.statements])
         self.asked.update(one for parts in bodies for one in parts.statements)
         return [self.guess(parts) for parts in bodies]
-
-    def unknown(self, parts: Parts) -> set[Alone]:
-        """The statements of a body that this search has not asked for."""
-        return set(parts.statements) - self.asked
 
     def parts(self, op: Op, body: Body) -> Parts:
         """A body's statements, and how many words and bits they define besides the results."""
@@ -139,11 +130,11 @@ class Measured:
 
     def _probe(self, statements: typing.Sequence[Alone]) -> None:
         """Measures statements together, or one by one where one is refused."""
-        found = self.of_text("".join(one.probe(f"e{k}") for k, one in enumerate(statements)), ALSO)
+        found = self.compiled("".join(one.probe(f"e{k}") for k, one in enumerate(statements)), ALSO)
         if found is None and len(statements) > 1:
             for one in statements:
                 self._probe([one])
             return
-        for one, costs in zip(statements, found or [None]):
+        for one, costs in zip(statements, found.costs if found else [None]):
             own = costs and {n: one.own_cost(n, cost) for n, cost in costs.items()}
             self.kept[one], self.cache[one.key] = own, own and {str(n): list(cost) for n, cost in own.items()}

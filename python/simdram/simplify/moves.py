@@ -38,8 +38,7 @@ def _start(items: Items, base: typing.Sequence[Group], words: typing.Sequence[It
         if node.kind == STATE:
             plan = _joined(plan, Item(STATES, items.component[node.ident]), word)
     for word in words:
-        for leaf in sorted(items.graph.leaves[word.number >> 1]):
-            node = items.graph.nodes[leaf]
+        for node in map(items.graph.nodes.__getitem__, sorted(items.graph.node(word.number).leaves)):
             if node.kind == STATE:
                 state = Item(STATES, items.component[node.ident])
                 home = next((group for group in plan.groups if state in group), frozenset())

@@ -118,7 +118,7 @@ class Order:
     def _is_cut(self, group: int, number: int) -> bool:
         """Whether the node is read from a row that the group of its states writes."""
         node, computed = self.graph.nodes[number], self.computed[group]
-        leaves = [self.graph.nodes[leaf] for leaf in self.graph.leaves[number]]
+        leaves = self.graph.reached(2 * number)
         read = {self.items.component[leaf.ident] for leaf in leaves if leaf.kind == STATE}
         if not read or any(one in computed or one in self.plan.again for one in read):
             return False

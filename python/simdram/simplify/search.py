@@ -115,7 +115,7 @@ class Search:
             left = [one for one in left if one.guess <= best.score[0]]
             left, new, count = sorted(left, key=lambda one: one.guess), set(), 0
             while count < len(left) and len(new) < AT_ONCE:
-                new |= self.measured.unknown(left[count].parts)
+                new.update(set(left[count].parts.statements) - self.measured.asked)
                 count += 1
             some, left = left[:count], left[count:]
             found = min(self._measured(some), key=lambda one: one.score, default=best)

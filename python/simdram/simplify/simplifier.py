@@ -92,9 +92,9 @@ class Simplifier:
 
     def _before(self, measured: Measured, data: bytes) -> list[Costs]:
         try:
-            found = measured.of_text(data.decode("utf-8", "replace"))
+            found = measured.compiled(data.decode("utf-8", "replace"))
         except TimeOver:
             raise Fault(f"{self.options.seconds:g} processor seconds are too few to measure the text as it is; --seconds gives more") from None
         if found is None:
             raise Fault(f"an op of the text cannot be executed at a width of {', '.join(map(str, self.options.widths))}")
-        return found
+        return found.costs

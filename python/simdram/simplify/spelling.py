@@ -10,6 +10,15 @@ from .items import Items
 STYLES = 3
 
 
+def named(lit: int, names: typing.Mapping[int, str]) -> Expr | None:
+    """A constant or a name, inverted where its opposite has the name."""
+    if lit < 2:
+        return gate(str(lit))
+    if lit in names:
+        return read(names[lit])
+    return gate("not", read(names[lit ^ 1])) if lit ^ 1 in names else None
+
+
 class Spelling:
     """Writes literals of a block as expressions.
 
@@ -17,31 +26,21 @@ class Spelling:
     association of xor, drawn by the number.
     """
 
-    def __init__(self, items: Items, number: int, inside: typing.Mapping[int, str],
-                 reading: typing.Callable[[int], Expr | None]) -> None:
-        self.items, self.graph, self.inside, self.reading = items, items.graph, inside, reading
+    def __init__(self, items: Items, number: int, names: typing.Mapping[int, str]) -> None:
+        self.items, self.graph, self.names = items, items.graph, names
         self.style, self.random = number % STYLES, random.Random(number) if number >= STYLES else None
         self.let_names: dict[int, str] = {}
 
-    def is_known(self, lit: int) -> bool:
-        """Whether a literal is a constant or a name."""
-        return lit < 2 or lit in self.inside or lit ^ 1 in self.inside or self.reading(lit) is not None
-
     def named(self, lit: int) -> Expr | None:
-        """A constant or a name, inverted where its opposite has the name."""
-        if lit < 2:
-            return gate(str(lit))
-        if lit in self.inside:
-            return read(self.inside[lit])
-        return gate("not", read(self.inside[lit ^ 1])) if lit ^ 1 in self.inside else self.reading(lit)
+        """A literal that is a constant or has a name."""
+        return named(lit, self.names)
 
     def expr(self, lit: int, is_let: bool = False) -> Expr:
         """A literal; a let's own right side does not read the let."""
-        if (found := self.named(lit)) is not None:
+        if found := self.named(lit):
             return found
         if lit >> 1 in self.let_names and not is_let:
-            found = read(self.let_names[lit >> 1])
-            return gate("not", found) if lit & 1 else found
+            return named(lit, {lit & ~1: self.let_names[lit >> 1]})
         node = self.graph.node(lit)
         return getattr(self, f"_{node.kind}")(lit, node)
 
@@ -55,7 +54,7 @@ class Spelling:
         a, b = node.args
         if lit & 1:
             return gate("or", *self._drawn([self.expr(a ^ 1), self.expr(b ^ 1)]))
-        if a & b & 1 and not self.is_known(a) and not self.is_known(b):
+        if a & b & 1 and not self.named(a) and not self.named(b):
             return gate("not", gate("or", self.expr(a ^ 1), self.expr(b ^ 1)))
         return gate("and", *self._drawn([self.expr(a), self.expr(b)]))
 
@@ -76,7 +75,7 @@ class Spelling:
         while todo:
             arg = todo.pop(0)
             below = self.graph.node(arg)
-            is_part = self.is_known(arg) or arg >> 1 in self.let_names or self.items.bits_only(arg)
+            is_part = self.named(arg) or arg >> 1 in self.let_names or self.items.bits_only(arg)
             if below.kind == "xor" and not is_part:
                 todo, flip = [*below.args, *todo], flip ^ arg & 1
             else:
@@ -98,7 +97,7 @@ def uses(graph: Graph, roots: typing.Iterable[int], spelling: Spelling,
     order: list[int] = []
 
     def go(lit: int) -> None:
-        if spelling.is_known(lit) or on_bits(lit):
+        if spelling.named(lit) or on_bits(lit):
             return
         number, node = lit >> 1, graph.node(lit)
         counts[number] = counts.get(number, 0) + 1

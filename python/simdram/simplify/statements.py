@@ -2,10 +2,11 @@
 
 import typing
 
-from ..rules.op_tree import BIT, TO_BIT, WORD, Block, Body, Expr, WordStatement, gate, read
+from ..rules.op_tree import BIT, TO_BIT, WORD, Block, Body, WordStatement, gate, read
 from .gates import WHOLE
 from .items import Items
 from .plans import NoOp, Order, Plan
+from .spelling import named
 
 NAME_MAX = 14
 Call = tuple[str, list[str]]
@@ -51,12 +52,6 @@ class Statements:
     def names_for(self, lit: int, kind: str = WORD) -> dict[int, str]:
         """Where the name of a literal of a kind is kept."""
         return self.spread if kind == WORD and self.items.bits_only(lit) else self.standing
-
-    def reading(self, lit: int) -> Expr | None:
-        """A literal that stands, or whose opposite does, as an expression."""
-        if lit in self.standing:
-            return read(self.standing[lit])
-        return gate("not", read(self.standing[lit ^ 1])) if lit ^ 1 in self.standing else None
 
     def call(self, targets: typing.Sequence[str], op: str, args: typing.Sequence[str]) -> None:
         self.body.append(WordStatement(tuple(targets), op, tuple(args)))
@@ -119,7 +114,7 @@ class Statements:
         if node.is_leaf:
             raise NoOp("a bit that nothing gives")
         if node.kind == "maj":
-            args = [self.reading(arg) or read(self.bit(arg)) for arg in node.args]
+            args = [named(arg, self.standing) or read(self.bit(arg)) for arg in node.args]
             name = self.name(lit & ~1, BIT)
             self.body.append(Block("up", ((name, 0),), (), ((name, gate("maj", *args)),)))
             return
