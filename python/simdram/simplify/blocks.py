@@ -1,6 +1,5 @@
 """A group of a plan as one statement: a word statement where one does, else a serial block."""
 
-import collections
 import typing
 
 from ..rules.op_tree import BIT, WORD, Block, Body, Expr, read
@@ -80,7 +79,7 @@ class BlockWriter:
     def _block(self, direction: str) -> None:
         made = self.made
         inside = {self.graph.leaf(STATE, state) ^ turn: name for state, (name, turn) in self.kept.items()}
-        spelling = Spelling(self.items, dict(self.plan.spelling).get(self.group, 0), collections.ChainMap(inside, made.standing))
+        spelling = Spelling(self.items, dict(self.plan.spelling).get(self.group, 0), inside, made.standing)
         nexts = [self.items.rule(state) ^ self.kept[state][1] for state in self.states]
         counts, order = uses(self.graph, [*self.words, *nexts], spelling, self._on_bits)
         lets = self._lets(spelling, [number for number in order if counts[number] > 1][:LETS])

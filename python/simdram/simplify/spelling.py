@@ -26,14 +26,14 @@ class Spelling:
     association of xor, drawn by the number.
     """
 
-    def __init__(self, items: Items, number: int, names: typing.Mapping[int, str]) -> None:
-        self.items, self.graph, self.names = items, items.graph, names
+    def __init__(self, items: Items, number: int, inside: typing.Mapping[int, str], standing: typing.Mapping[int, str]) -> None:
+        self.items, self.graph, self.inside, self.standing = items, items.graph, inside, standing
         self.style, self.random = number % STYLES, random.Random(number) if number >= STYLES else None
         self.let_names: dict[int, str] = {}
 
     def named(self, lit: int) -> Expr | None:
-        """A literal that is a constant or has a name."""
-        return named(lit, self.names)
+        """A literal that is a constant or has a name, in the block first."""
+        return named(lit, self.inside) or named(lit, self.standing)
 
     def expr(self, lit: int, is_let: bool = False) -> Expr:
         """A literal; a let's own right side does not read the let."""
