@@ -240,7 +240,7 @@ class Simplified(unittest.TestCase):
         text += f"op low(a: word) -> y: bit {{ {half} y = ge(h, a); }}\n"
         for one in Simplifier(program(), Options((1, 2, 8), SLOW)).outcomes(text.encode()):
             found = " ".join(one.simpler.text.split("{", 1)[1].split())
-            self.assertEqual(found, "serial up (y = 1) { y = not(a); } }" if one.op.name == "low" else "serial up (y = 0) { y = a; } }")
+            self.assertEqual(found, "serial up (y = 1) { y = not(a); } }" if one.simpler.op.name == "low" else "serial up (y = 0) { y = a; } }")
             self.assertTrue(one.is_taken)
 
     def test_an_empty_text(self):

@@ -129,8 +129,3 @@ class Array(Operators):
 
     def __bool__(self) -> bool:
         raise TypeError("an array of a chip has no one truth value: look at .numpy()")
-
-
-def constant(chip: "Chip", number: int, kind: str, bits: int, signed: bool) -> Array:
-    """One number, for arrays of any shape."""
-    return Array(chip, (), Value(kind, bits, Constant(number % 2**bits)), Made(), signed)

@@ -12,7 +12,7 @@ import numpy
 from ..files import columns
 from ..files.image import Image, NoRoom
 from . import cells
-from .array import Array, constant
+from .array import Array
 from .costing import Cost, total
 from .cutting import STATEMENTS, cut
 from .expressions import Constant, Held, Value, made_before
@@ -76,7 +76,7 @@ class Chip:
         cells.check_range(numbers, width, signed)
         kind = cells.kind_of(numbers, width)
         if not numbers.shape:
-            return constant(self, int(numbers), kind, width, signed)
+            return Array(self, (), Value(kind, width, Constant(int(numbers) % 2**width)), Made(), signed)
         name = self._placed(width, numbers.size)
         patterns = cells.modulo(numbers, width) if signed else numbers
         self.image.set_cells(name, cells.cells_of(patterns, width))
@@ -195,8 +195,9 @@ class Chip:
             self.spend(dataclasses.replace(one.all_lines, banks=banks))
         cost = dataclasses.replace(total([one.cost for one in done]), banks=banks)
         lines = "".join(f"{line}\n" for script in scripts.scripts for line in script.lines)
-        ops = "".join(dict.fromkeys(text for script in scripts.scripts for text in script.texts))
-        texts = "".join(dict.fromkeys(text for script in scripts.scripts for text in [*script.texts, *script.programs]))
+        ops = "".join(dict.fromkeys(text for script in scripts.scripts for text in script.compiled))
+        # what is compiled comes first
+        texts = "".join(dict.fromkeys(text for script in scripts.scripts for text in [*script.compiled, *script.ops]))
         report = "".join(one.report for one in done)
         return Made(texts, lines, report, cost, ops, "".join(scripts.written))
 

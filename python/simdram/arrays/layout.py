@@ -102,13 +102,6 @@ def sliced(b, value: Value, low: int, size: int, kind: str = WORD) -> Value:
     return b.step(Slice(base + low, kind), (whole,), size)[0]
 
 
-def moved(b, value: Value, places: int) -> Value:
-    """A value at its width after a shift by so many places, up, or down where they are below 0."""
-    gone = abs(places)
-    kept, zeros = sliced(b, value, max(-places, 0), value.bits - gone), b.constant(WORD, gone, 0)
-    return put_together(b, [(one, one.bits) for one in ((zeros, kept) if places > 0 else (kept, zeros))])
-
-
 def masked(b, value: Value, mask: int) -> Value:
     """The bits of a value where those of a number are 1, and 0 elsewhere."""
     runs = [list(run) for _, run in itertools.groupby(range(value.bits), lambda k: mask >> k & 1)]

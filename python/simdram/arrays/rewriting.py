@@ -172,8 +172,8 @@ FIRST: Gives = lambda _b, x, *_: x
 SECOND: Gives = lambda _b, _x, y: y
 ZEROS: Gives = lambda b, x, *_: b.like(x, 0)
 ONES: Gives = lambda b, x, *_: b.like(x, -1)
-FALSE: Gives = lambda b, *_: b.bit(0)
-TRUE: Gives = lambda b, *_: b.bit(1)
+FALSE: Gives = lambda b, *_: b.constant(BIT, 1, 0)
+TRUE: Gives = lambda b, *_: b.constant(BIT, 1, 1)
 # the rules of each operation, of which the first is taken that holds and says something
 RULES: dict[str, tuple[tuple[Holds, Gives], ...]] = {
     # a difference takes fewer commands than a sum

@@ -49,13 +49,16 @@ class Made(typing.NamedTuple):
 
 
 class Script:
-    """Operation texts, a designer's own programs with their texts, and lines, in order."""
+    """Ops by their texts, each with the entry that does it where it is not compiled, and lines, in order."""
 
     def __init__(self) -> None:
-        self.texts: list[str] = []
-        self.programs: list[str] = []
-        self.entries: list[Entry] = []
+        self.ops: dict[str, Entry | None] = {}
         self.lines: list[str] = []
+
+    @property
+    def compiled(self) -> list[str]:
+        """The texts that are compiled."""
+        return [text for text, entry in self.ops.items() if entry is None]
 
 
 def computes(line: str) -> bool:
@@ -75,12 +78,12 @@ class Done(typing.NamedTuple):
 def run(script: Script, image: Image) -> Done:
     """Does a script on an image; a line that the program refuses is raised, and the image stays."""
     lines = "".join(f"{line}\n" for line in script.lines)
-    with folder_of(ops="".join(script.texts).encode(), script=lines.encode(), image=image.file()) as folder:
-        if script.entries:
-            store_program(script, folder)
-            words = ["exec", "prog", "script", "image", "out"]
-        else:
-            words = ["run", "ops", "prog", "script", "image", "out"]
+    with folder_of(ops="".join(script.compiled).encode(), script=lines.encode(), image=image.file()) as folder:
+        words = ["run", "ops", "prog", "script", "image", "out"]
+        if entries := list(filter(None, script.ops.values())):
+            own = Program.read(compiled("".join(script.compiled))).entries if script.compiled else []
+            store(f"{folder}/prog", Program([*own, *entries]).file())
+            words = ["exec", *words[2:]]
         ended = run_program.run(words, folder)
         if ended.status == 8:
             raise refusal(script, ended)
@@ -91,15 +94,13 @@ def run(script: Script, image: Image) -> Done:
                     cost(ended.out, range(1, len(script.lines) + 1), image))
 
 
-def store_program(script: Script, folder: str) -> None:
-    """Stores the program of a script: its ops, compiled, and the designer's own programs."""
-    compiled: list[Entry] = []
-    if script.texts:
+def compiled(text: str) -> bytes:
+    """The program file that ops are compiled to."""
+    with folder_of(ops=text.encode()) as folder:
         ended = run_program.run(["compile", "ops", "prog"], folder)
         if ended.status:
-            raise Stopped("compile", ended)
-        compiled = Program.load(f"{folder}/prog").entries
-    store(f"{folder}/prog", Program([*compiled, *script.entries]).file())
+            raise Stopped("compile", ended, "ops", text)
+        return load(f"{folder}/prog")
 
 
 def refusal(script: Script, ended: run_program.Ended) -> Refused:

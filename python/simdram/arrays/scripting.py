@@ -120,12 +120,10 @@ class Scripts:
 
     def _add(self, text: str, entry: Entry | None = None) -> None:
         """The op of a text, or an entry shown by it, is one of the script's; of a new one, where that has 32."""
-        if text in (self.scripts[-1].texts if entry is None else self.scripts[-1].programs):
-            return
-        if len(self.scripts[-1].texts) + len(self.scripts[-1].entries) == OPS_MOST:
-            self.scripts.append(Script())
-        (self.scripts[-1].texts if entry is None else self.scripts[-1].programs).append(text)
-        self.scripts[-1].entries += [entry] * (entry is not None)
+        if text not in self.scripts[-1].ops:
+            if len(self.scripts[-1].ops) == OPS_MOST:
+                self.scripts.append(Script())
+            self.scripts[-1].ops[text] = entry
 
     @staticmethod
     def _fresh(taken: typing.Collection[str]) -> str:

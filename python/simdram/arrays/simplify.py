@@ -7,7 +7,7 @@ division and a rest of the same numbers are one step, and of two results those t
 import typing
 
 from .expressions import Constant, Held, Result, Step, Value, in_order, kinds_of
-from .layout import Layout, laid_out, moved, sliced
+from .layout import Layout, laid_out, put_together, sliced
 from .operations import BIT, NAMED, OPERATIONS, WORD, Operation
 from .rewriting import COMMUTATIVE, simpler
 
@@ -34,10 +34,6 @@ class Builder:
         """A constant of a value's kind and width."""
         return self.constant(value.kind, value.bits, number)
 
-    def bit(self, number: int) -> Value:
-        """A constant truth value."""
-        return self.constant(BIT, 1, number)
-
     def leaf(self, value: Value) -> Value:
         """The one value of an object, of a constant, or of a step's result."""
         if isinstance(value.origin, Constant):
@@ -52,7 +48,9 @@ class Builder:
         """A value at its width after a shift by so many places, up, or down where they are below 0."""
         if abs(places) < 2:
             return self.do("shl1" if places > 0 else "shr1", value) if places else value
-        return moved(self, value, places)
+        gone = abs(places)
+        kept, zeros = sliced(self, value, max(-places, 0), value.bits - gone), self.constant(WORD, gone, 0)
+        return put_together(self, [(one, one.bits) for one in ((zeros, kept) if places > 0 else (kept, zeros))])
 
     def do(self, name: str, *arguments: Value) -> Value:
         """The one result of an operation by its name."""

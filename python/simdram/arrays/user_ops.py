@@ -6,7 +6,7 @@ import typing
 
 from ..costs.costs import EntryCost, costs_at
 from ..costs.profile import Profile, profiles
-from ..files.store import folder_of, load
+from ..files.store import folder_of
 from ..launcher import run_program
 from ..launcher.settings import taken
 from ..rules import op_tree
@@ -15,6 +15,7 @@ from .array import Array
 from .cells import checked_width
 from .operators import stepped
 from .refusals import Stopped
+from .running import compiled
 
 
 class Counted:
@@ -67,11 +68,7 @@ class Op(Counted):
     @functools.cached_property
     def program(self) -> bytes:
         """The program file that it is compiled to."""
-        with folder_of(ops=self.text.encode()) as folder:
-            ended = run_program.run(["compile", "ops", "prog"], folder)
-            if ended.status:
-                raise Stopped("compile", ended, "ops", self.text)
-            return load(f"{folder}/prog")
+        return compiled(self.text)
 
 
 def ops(text: str) -> dict[str, Op]:

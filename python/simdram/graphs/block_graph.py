@@ -12,7 +12,7 @@ import typing
 from ..files.decode import CELLS
 from ..launcher.faults import Fault
 from ..launcher.settings import Settings
-from ..rules.op_tree import OpShape, StatementShape, head_text
+from ..rules.op_tree import BIT, Op, OpShape, StatementShape
 from ..rules.ops_rules import RESULTS, SOURCES, op_shape
 from ..steps import op_texts
 from ..steps.board import Board, done_by, over
@@ -97,17 +97,16 @@ class GraphBoard(Board):
         self.written.add(name)
 
 
-def alone(name: str, block: StatementShape, shape: OpShape, data: bytes) -> str:
+def alone(block: StatementShape, shape: OpShape) -> str:
     """The text of an op that is this block alone."""
     takes = [one for one in read_names(block) if one not in block.starts]
-    kinds = {**shape.defined, **dict.fromkeys(block.starts, "bit")}
+    kinds = {**shape.defined, **dict.fromkeys(block.starts, BIT)}
     words = [one for one in block.assignments if one not in block.starts]
-    gives = (words + list(block.starts))[:RESULTS]
     if not 1 <= len(takes) <= SOURCES or len(words) > RESULTS:
         raise Fault(f"the block reads {len(takes)} words and bits and sets {len(words)} words; to show its loop there may be "
                     f"1 to {SOURCES}, and at most {RESULTS}")
-    head = head_text(f"op {name}", *([(one, kinds.get(one, "word")) for one in names] for names in (takes, gives)))
-    return f"{head} {{ {data[block.first.at:block.last.at + 1].decode()} }}\n"
+    params, results = (tuple((one, kinds[one]) for one in names) for names in (takes, [*words, *block.starts][:RESULTS]))
+    return Op(shape.name, params, results, [block.tree()]).text()
 
 
 def as_compiled(block: StatementShape, shape: OpShape, data: bytes, settings: Settings) -> Compiled:
@@ -116,7 +115,7 @@ def as_compiled(block: StatementShape, shape: OpShape, data: bytes, settings: Se
     try:
         return of_statement(block, shape, shape.statements.index(block), data, settings)
     except Fault:
-        return of_statement(block, shape, 0, alone(shape.name, block, shape, data).encode(), settings)
+        return of_statement(block, shape, 0, alone(block, shape).encode(), settings)
 
 
 def of_statement(block: StatementShape, shape: OpShape, number: int, data: bytes, settings: Settings) -> Compiled:

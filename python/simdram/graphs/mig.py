@@ -110,10 +110,9 @@ def signal(graph: Graph, number: int) -> str:
 def table(literals: list[int]) -> list[str]:
     """The rows of a table for a majority, of which one literal may be a constant."""
     free = [one for one in literals if one > 1]
-    bits = [str(1 - (one & 1)) for one in free]
-    if len(free) == 2:
-        return [f"{''.join(bits)} 1"] if 0 in literals else [f"{bits[0]}- 1", f"-{bits[1]} 1"]
-    return [f"{''.join(bit if k in pair else '-' for k, bit in enumerate(bits))} 1" for pair in itertools.combinations(range(3), 2)]
+    both, either = [(0, 1)], [(0,), (1,)]
+    true = itertools.combinations(range(3), 2) if len(free) == 3 else both if 0 in literals else either
+    return [f"{''.join(str(1 - (one & 1)) if k in those else '-' for k, one in enumerate(free))} 1" for those in true]
 
 
 def as_blif(graph: Graph, name: str, notes: list[str]) -> str:

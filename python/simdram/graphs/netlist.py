@@ -46,24 +46,21 @@ class Netlist:
 
 def in_order(net: Netlist, path: str, targets=None) -> list[str]:
     """The signals with tables that targets need, the outputs where none are named, each after those that it reads."""
-    found: dict[str, None] = {}
-    open_ways: set[str] = set()
-    for target in net.outputs if targets is None else targets:
-        waiting = [target]
-        while waiting:
-            name = waiting[-1]
-            left = [] if name in found or name not in net.tables else [one for one in net.tables[name].inputs if one not in found
-                                                                        and one in net.tables]
-            if (looped := next((one for one in left if one in open_ways), None)) is not None:
-                raise Fault(f"{path} line {net.tables[looped].line}: {looped} reads itself through other tables")
-            if left:
-                open_ways.add(name)
-                waiting.append(left[0])
-            else:
-                waiting.pop()
-                open_ways.discard(name)
-                if name in net.tables:
-                    found.setdefault(name)
+    waiting, found, open_ways = list(net.outputs if targets is None else targets)[::-1], dict[str, None](), set[str]()
+    while waiting:
+        name = waiting[-1]
+        inputs = net.tables[name].inputs if name in net.tables and name not in found else ()
+        left = [one for one in inputs if one not in found and one in net.tables]
+        if (looped := next((one for one in left if one in open_ways), None)) is not None:
+            raise Fault(f"{path} line {net.tables[looped].line}: {looped} reads itself through other tables")
+        if left:
+            open_ways.add(name)
+            waiting.append(left[0])
+        else:
+            waiting.pop()
+            open_ways.discard(name)
+            if name in net.tables:
+                found.setdefault(name)
     return list(found)
 
 

@@ -62,8 +62,8 @@ class Splitter:
         for _ in reach:
             for state, its in reach.items():
                 its.update(*(reach[one] for one in its))
-        groups = {tuple(one for one in self.net.states if one in reach[state] and state in reach[one]) for state in reach}
-        return sorted(groups, key=lambda group: len(reach[group[0]]))
+        groups = (tuple(one for one in self.net.states if one in reach[state] and state in reach[one]) for state in reach)
+        return sorted(dict.fromkeys(groups), key=lambda group: len(reach[group[0]]))
 
     def spread(self, group: typing.Sequence[str]) -> None:
         """The cones of the signals that are known now, after a group of states; those that grow too large are cut."""

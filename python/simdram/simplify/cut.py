@@ -6,17 +6,12 @@ equal for the product. So what a comparison of whole texts cannot follow is ofte
 
 import typing
 
-from ..rules.op_tree import WORD, Body, Op, Params, WordStatement
+from ..rules.op_tree import WORD, Op, Params, WordStatement
 from ..rules.ops_rules import SOURCES
 from .op_limits import live
 
 OPERATIONS = ("mul", "div", "rem", "divmod", "bitcount")
 COMMUTATIVE = ("mul",)
-
-
-def has_nested(body: Body) -> bool:
-    """Whether a body has an operation that can be cut."""
-    return any(isinstance(one, WordStatement) and one.op in OPERATIONS for one in body)
 
 
 class Side:
@@ -60,7 +55,9 @@ class Side:
 
 
 def cut(old: Op, new: Op) -> tuple[str, str] | None:
-    """The two texts, or nothing where they would need too many sources."""
+    """The two texts, or nothing where the old one has no such operation, or they would need too many sources."""
+    if not any(isinstance(one, WordStatement) and one.op in OPERATIONS for one in old.body):
+        return None
     sides = [Side(old), Side(new)]
     used = sorted({side.key[name] for side in sides for name in side.read if name in side.key}) or [old.params[0][0]]
     return (sides[0].text(used), sides[1].text(used)) if len(used) <= SOURCES else None

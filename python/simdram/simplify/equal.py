@@ -7,7 +7,7 @@ from ..files.store import folder_of
 from ..launcher import run_program
 from ..rules.op_tree import Op
 from ..rules.verdicts import RIGHT, UNKNOWN, WRONG, verdicts_of
-from .cut import cut, has_nested
+from .cut import cut
 from .timed import TimeOver, Timed
 
 # the statuses under which `verify` has a line for the op
@@ -59,8 +59,7 @@ class Comparer:
 
         With products and the like as unknowns first, then as they are; what is not known is asked the other way round.
         """
-        pair = cut(old, new) if has_nested(old.body) else None
-        if pair is not None:
+        if (pair := cut(old, new)) is not None:
             found = self.by_texts(*pair, widths)
             if set(found.values()) == {RIGHT}:
                 return Equality(found, True)

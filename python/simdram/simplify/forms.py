@@ -47,7 +47,7 @@ class Forms(Sums):
             return b if (op == "min") == (a == 1) else a
         how = self.choose(op, (ALONE, "gt", "bits", "down"))
         if how == ALONE:
-            found = graph.leaf(WHOLE, graph.whole(op, a, b))
+            found = graph.whole(op, a, b)
         elif how == "down":
             found = self._from_the_top(op, a, b)
         else:
@@ -75,7 +75,7 @@ class Forms(Sums):
         if before and before.op in (op, "relu"):
             return a
         if self.choose(op, (ALONE, "block")) == ALONE:
-            return self.made(graph.leaf(WHOLE, graph.whole(op, a)), op, a)
+            return self.made(graph.whole(op, a), op, a)
         top = self.top(a)
         return self.made(graph.gate("and", a, top ^ 1) if op == "relu" else self.negate_if(a, top), op, a)
 
@@ -107,10 +107,12 @@ class Forms(Sums):
 
 # of each operation with a short rule, its value
 RULES: dict[str, typing.Callable[..., int]] = {
-    "not": lambda _, a: a ^ 1, "copy": lambda _, a: a, "zero": lambda _: 0, "ones": lambda _: 1, "ge": lambda self, a, b: self.do_gt(b, a) ^ 1,
+    "not": lambda _, a: a ^ 1, "copy": lambda _, a: a, "zero": lambda _: 0, "ones": lambda _: 1,
+    "ge": lambda self, a, b: self.do_gt(b, a) ^ 1,
     "shl1": lambda self, a: self._shifted("shl1", "up", a), "shr1": lambda self, a: self._shifted("shr1", "down", a),
     "and_red": lambda self, a: self._reduced("and_red", "and", 1, a), "xor_red": lambda self, a: self._reduced("xor_red", "xor", 0, a),
     "min": lambda self, a, b: self._extreme("min", a, b), "max": lambda self, a, b: self._extreme("max", a, b),
     "abs": lambda self, a: self._of_sign("abs", a), "relu": lambda self, a: self._of_sign("relu", a),
     "div": lambda self, a, b: self.divide(a, b)[0], "rem": lambda self, a, b: self.divide(a, b)[1],
+    "bitcount": lambda self, a: a and self.graph.whole("bitcount", a),
 }

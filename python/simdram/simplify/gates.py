@@ -193,12 +193,12 @@ class Graph:
         """The last value of a state, by the state's literal."""
         return self.leaf(LAST, self.node(state).ident) ^ (state & 1)
 
-    def whole(self, op: str, *args: int) -> int:
-        """The number of an operation that stays whole."""
+    def whole(self, op: str, *args: int, place: int = 0) -> int:
+        """A result of an operation that stays whole."""
         form = Form(op, args)
         if form not in self.wholes:
             self.wholes.append(form)
-        return self.wholes.index(form)
+        return self.leaf(WHOLE, self.wholes.index(form), place)
 
     def form(self, lit: int, op: str, *args: int) -> int:
         """Notes that a literal is the value of an operation."""

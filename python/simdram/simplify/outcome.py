@@ -3,7 +3,6 @@
 import dataclasses
 import typing
 
-from ..rules.op_tree import Op
 from .equal import Equality
 from .search import Simpler
 
@@ -23,10 +22,6 @@ class Outcome:
     simpler: Simpler
     equality: Equality | None = None
     is_unvalidated: bool = False
-
-    @property
-    def op(self) -> Op:
-        return self.simpler.op
 
     @property
     def kind(self) -> str:
@@ -53,7 +48,7 @@ class Outcome:
         after = self.simpler.after if self.is_taken else self.simpler.before
         costs = [f"n={n} {old.commands} -> {after[n].commands} rows {old.rows} -> {after[n].rows}"
                  for n, old in self.simpler.before.items()]
-        return f"{self.op.name} {', '.join(costs)}; {self._known(before)}"
+        return f"{self.simpler.op.name} {', '.join(costs)}; {self._known(before)}"
 
     def _known(self, before: bytes) -> str:
         if self.equality is None:
@@ -81,6 +76,7 @@ def new_text(data: bytes, outcomes: typing.Sequence[Outcome]) -> bytes:
     """A text with its ops replaced; what stands between ops stays."""
     found, at = b"", 0
     for one in outcomes:
-        found += data[at:one.op.start] + one.text(data[one.op.start:one.op.end])
-        at = one.op.end
+        op = one.simpler.op
+        found += data[at:op.start] + one.text(data[op.start:op.end])
+        at = op.end
     return found + data[at:]

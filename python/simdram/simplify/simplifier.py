@@ -53,8 +53,7 @@ class Simplifier:
     """Simplifies the ops of one text by a program."""
 
     def __init__(self, program: str, options: Options) -> None:
-        self.options, self.start = options, spent()
-        self.timed = Timed(program, self.start + ENDED * options.seconds, threading.Event())
+        self.options, self.timed = options, Timed(program, spent() + ENDED * options.seconds)
 
     def outcomes(self, data: bytes, what: str = "") -> list[Outcome]:
         """What becomes of each op of a text that the program accepts.

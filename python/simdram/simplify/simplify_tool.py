@@ -92,7 +92,7 @@ def main(asked: Asked) -> int:
     else:
         sys.stdout.write(text.decode("utf-8", "replace"))
     for one in outcomes:
-        before = data[one.op.start:one.op.end]
+        before = data[one.simpler.op.start:one.simpler.op.end]
         print(one.line(before), file=sys.stdout if asked.new else sys.stderr)
         if one.kind == WRONG:
             print(f"as it was:\n{before.decode('utf-8', 'replace')}\nas it was simplified:\n{one.simpler.text}", end="", file=sys.stderr)

@@ -1,7 +1,6 @@
 """Sums, differences and products as gates and states."""
 
 from .comparisons import Comparisons
-from .gates import WHOLE
 
 PLAIN, NEGATE, BORROW = "plain", "negate", "borrow"
 
@@ -92,16 +91,11 @@ class Sums(Comparisons):
     def divide(self, a: int, b: int) -> tuple[int, int]:
         if b == 0:
             return 1, a
-        number = self.graph.whole("divmod", a, b)
-        return self.graph.leaf(WHOLE, number, 0), 0 if a == b else self.graph.leaf(WHOLE, number, 1)
+        return self.graph.whole("divmod", a, b), 0 if a == b else self.graph.whole("divmod", a, b, place=1)
 
     def do_mul(self, a: int, b: int) -> int:
         """A product, which stays whole."""
         a, b = sorted((a, b))
         if a == 0:
             return 0
-        return self.do_sub(0, b) if a == 1 else self.graph.leaf(WHOLE, self.graph.whole("mul", a, b))
-
-    def do_bitcount(self, a: int) -> int:
-        """The number of ones, which stays whole."""
-        return 0 if a == 0 else self.graph.leaf(WHOLE, self.graph.whole("bitcount", a))
+        return self.do_sub(0, b) if a == 1 else self.graph.whole("mul", a, b)
