@@ -19,9 +19,9 @@ class Guessed(Measured):
         for one in statements:
             if not self.is_known(one):
                 statement = read_ops(one.probe("e").encode())[0].body[len(one.reads)]
-                kinds = dict(pair.split(": ") for pair in one.reads)
+                kinds = dict(one.reads)
                 each = guessed(statement, kinds) / (OPTIMISM if isinstance(statement, Block) else 1)
-                self.kept[one] = {n: Cost(int(each * n) + 1, 0) for n in self.widths}
+                self.kept[one.key] = {n: Cost(int(each * n) + 1, 0) for n in self.widths}
 
     def of_text(self, text):
         op = read_ops(text.encode())[0]

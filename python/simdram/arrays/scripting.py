@@ -2,10 +2,11 @@
 
 import collections
 import dataclasses
-import re
 import typing
 
 from ..files.program import Entry
+from ..rules.op_tree import Op
+from ..rules.ops_rules import read_ops
 from .cutting import Part, can_join, renamed, text_of
 from .expressions import Constant, Held, Step, Value
 from .layout import Join, Product, Slice, whole_of
@@ -13,18 +14,12 @@ from .own_programs import OwnProgram
 from .running import OPS_MOST, Script
 from .simpler_texts import Texts
 
-COPY = "op e(a: word) -> y: word {\n  y = copy(a);\n}\n"
-SPREAD = "op e(a: bit) -> y: word {\n  serial up () {\n    y = a;\n  }\n}\n"
-GATE = "op e(a: word, b: bit) -> y: word {\n  serial up () {\n    y = and(a, b);\n  }\n}\n"
-STEP = """op e(p: word, a: word, b: bit) -> y: word, c: bit {
-  serial up (c = 0) {
-    let x = and(a, b);
-    y = xor(xor(p, x), c);
-    c = maj(p, x, c);
-  }
-}
-"""
-OPERAND = re.compile(r"(\w+)(?:\[(\d+):\d+\])?")
+COPY, SPREAD, GATE, STEP = read_ops(b"""
+op copy(a: word) -> y: word { y = copy(a); }
+op spread(a: bit) -> y: word { serial up () { y = a; } }
+op gate(a: word, b: bit) -> y: word { serial up () { y = and(a, b); } }
+op step(p: word, a: word, b: bit) -> y: word, c: bit { serial up (c = 0) { let x = and(a, b); y = xor(xor(p, x), c); c = maj(p, x, c); } }
+""")
 
 
 class Scripts:
@@ -53,11 +48,11 @@ class Scripts:
         """The lines of the script in hand."""
         return self.scripts[-1].lines
 
-    def object_of(self, value: Value) -> str:
-        """The operand that is a value: an object, into which a constant is filled, or bits of one."""
-        whole, low = whole_of(value)
-        if whole is not value:
-            return bits(self.object_of(whole), low, value.bits)
+    def object_of(self, value: Value, low: int = 0, size: int = 0) -> str:
+        """The operand that is a value, or so many bits of it: an object, into which a constant is filled, or bits of one."""
+        whole, base = whole_of(value)
+        if whole is not value or size:
+            return bits(self.object_of(whole), base + low, size or value.bits)
         if isinstance(value.origin, Held):
             return value.origin.name
         if id(value) not in self.objects:
@@ -94,11 +89,10 @@ class Scripts:
     def bbop(self, op: str, operands: typing.Sequence[str], width: int) -> None:
         self.lines.append(f"bbop_{op} {', '.join(operands)}, {self.count}, {width}")
 
-    def op_of(self, text: str) -> str:
-        """The name of the op of a text, which is compiled as it stands."""
-        name = self.ops.setdefault((text, 0), self._fresh(self.ops.values()))
-        self._add(renamed(text, name))
-        self.written[renamed(text, name)] = None
+    def op_of(self, op: Op) -> str:
+        """The name of an op that is compiled as it stands."""
+        name = self.ops.setdefault((op.text(name="e"), 0), self._fresh(self.ops.values()))
+        self._add(op.text(name=name), op.text(name=name))
         return name
 
     def _op(self, part: Part) -> str:
@@ -114,12 +108,13 @@ class Scripts:
         name = self.ops[key]
         entry = self.simpler.entry(*key) if own is None else own.entry if isinstance(own, OwnProgram) else None
         # renaming leaves the text of a program as it is
-        self._add(renamed(own.text if own else self.simpler.compiled(*key), name), entry and dataclasses.replace(entry, name=name))
-        self.written[renamed(text, name)] = None
+        compiled = renamed(own.text if own else self.simpler.compiled(*key), name)
+        self._add(renamed(text, name), compiled, entry and dataclasses.replace(entry, name=name))
         return name
 
-    def _add(self, text: str, entry: Entry | None = None) -> None:
+    def _add(self, written: str, text: str, entry: Entry | None = None) -> None:
         """The op of a text, or an entry shown by it, is one of the script's; of a new one, where that has 32."""
+        self.written[written] = None
         if text not in self.scripts[-1].ops:
             if len(self.scripts[-1].ops) == OPS_MOST:
                 self.scripts.append(Script())
@@ -130,10 +125,8 @@ class Scripts:
         return next(name for name in (f"e{k}" for k in range(len(taken) + 1)) if name not in taken)
 
 
-def bits(operand: str, low: int, size: int) -> str:
-    """So many bits of an operand, from the bit `low` on."""
-    name, start = OPERAND.fullmatch(operand).groups()
-    low += int(start or 0)
+def bits(name: str, low: int, size: int) -> str:
+    """So many bits of an object, from the bit `low` on."""
     return f"{name}[{low}:{low + size}]"
 
 
@@ -152,15 +145,16 @@ def join(script: Scripts, step: Step) -> None:
 def product(script: Scripts, step: Step) -> None:
     """A row for each bit of the second factor, which stands in the result and in a spare object in turn, so that the last one stands in
     the result. Each is the sum of the bits of the row before, without the lowest, and of the first factor where the bit is 1."""
-    (a, b), target, spare = map(script.object_of, step.arguments), script.object_of(step.results[0]), f"v{next(script.names)}"
+    (a, _), target, spare = map(script.object_of, step.arguments), script.object_of(step.results[0]), f"v{next(script.names)}"
     size, count = (value.bits for value in step.arguments)
+    bits_of_b = [script.object_of(step.arguments[1], k, 1) for k in range(count)]
     script.make(spare, size + count)
     rows = [target if (count - k) % 2 else spare for k in range(count)]
-    script.bbop(script.op_of(GATE), (bits(rows[0], 0, size), a, bits(b, 0, 1)), size)
+    script.bbop(script.op_of(GATE), (bits(rows[0], 0, size), a, bits_of_b[0]), size)
     script.lines.append(f"fill {bits(rows[0], size, 1)}, 0")
     for k in range(1, count):
         sums = (bits(rows[k], k, size), bits(rows[k], k + size, 1), bits(rows[k - 1], k, size))
-        script.bbop(script.op_of(STEP), (*sums, a, bits(b, k, 1)), size)
+        script.bbop(script.op_of(STEP), (*sums, a, bits_of_b[k]), size)
     for k in range(count - 2, -1, -2):
         script.bbop(script.op_of(COPY), (bits(target, k, 1), bits(spare, k, 1)), 1)
     if step.width > size + count:

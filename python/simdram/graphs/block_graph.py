@@ -69,6 +69,13 @@ class Compiled(typing.NamedTuple):
         return all(expected.get(name) == value for name, value in self.graph.values(inputs, ALL).items())
 
 
+class Kept(typing.NamedTuple):
+    """What a cell keeps at the start of a loop: a state, or its complement."""
+
+    name: str
+    is_turned: bool
+
+
 class GraphBoard(Board):
     """A board whose cells and rows hold literals of a graph."""
 
@@ -126,34 +133,29 @@ def of_statement(block: StatementShape, shape: OpShape, number: int, data: bytes
     if not (loops := [k for k, part in enumerate(found) if part.loops and number in part.statements]):
         raise Fault(f"no loop of {shape.name} is of this block")
     k = next((k for k in loops if found[k].again), loops[0])
-    states = {cell: value.text.replace("old ", "").replace("[0]", "") for cell, value in held[k].items()}
+    texts = {cell: value.text.replace("old ", "").replace("[0]", "") for cell, value in held[k].items()}
+    states = {cell: Kept(text.lstrip("~"), text.startswith("~")) for cell, text in texts.items()}
     return named(block, shape, found[k], rows, states)
 
 
-def named(block: StatementShape, shape: OpShape, part: Part, rows: RowNames, states: dict[str, str]) -> Compiled:
+def named(block: StatementShape, shape: OpShape, part: Part, rows: RowNames, states: dict[str, Kept]) -> Compiled:
     """The graph of a part, where a state that goes to no row, and so has no name of its own in the cells, is found by trying
     which of the block's states it is, or the complement of which: the one with which the graph is that of the block."""
-    unnamed = sorted({text.lstrip("~") for text in states.values()} - set(block.starts))
-    missing = [name for name in block.starts if name not in {text.lstrip("~") for text in states.values()}]
+    names = {name for name, _ in states.values()}
+    unnamed, missing = sorted(names - set(block.starts)), [name for name in block.starts if name not in names]
     if not unnamed:
         return of_part(block, shape, part, rows, states)
-    for names in itertools.permutations(missing, len(unnamed)):
+    for those in itertools.permutations(missing, len(unnamed)):
         for turned in itertools.product((False, True), repeat=len(unnamed)):
-            called = dict(zip(unnamed, zip(names, turned)))
-            tried = {cell: renamed(text, called) for cell, text in states.items()}
+            called = {**{name: Kept(name, False) for name in names}, **dict(zip(unnamed, map(Kept, those, turned)))}
+            tried = {cell: Kept(called[name].name, is_turned != called[name].is_turned) for cell, (name, is_turned) in states.items()}
             made = of_part(block, shape, part, rows, tried)
             if made.agrees(written(block, shape, made.positions)):
                 return made
     raise Fault(f"the loop of {shape.name} keeps states in cells that are not the block's states: it has no graph of the block")
 
 
-def renamed(text: str, called: dict[str, tuple[str, bool]]) -> str:
-    """A value in a cell, where a state without a name has one."""
-    name, is_turned = called.get(text.lstrip("~"), (text.lstrip("~"), False))
-    return f"{'~' if text.startswith('~') != is_turned else ''}{name}"
-
-
-def of_part(block: StatementShape, shape: OpShape, part: Part, rows: RowNames, states: dict[str, str]) -> Compiled:
+def of_part(block: StatementShape, shape: OpShape, part: Part, rows: RowNames, states: dict[str, Kept]) -> Compiled:
     """The graph of one execution of a part, whose cells hold these states at its start."""
     offsets = sorted({int(SUBSCRIPT.search(name)[1] or 0) for name in done_by(part, rows, {}).rows if SUBSCRIPT.search(name)},
                      reverse=block.direction == "down")
@@ -165,13 +167,12 @@ def of_part(block: StatementShape, shape: OpShape, part: Part, rows: RowNames, s
     graph, asked = Graph(), written(block, shape, len(offsets))
     for name in asked.inputs:
         graph.input(name)
-    cells = {cell: graph.input(text.lstrip("~")) ^ text.startswith("~") for cell, text in states.items()}
+    cells = {cell: graph.input(name) ^ is_turned for cell, (name, is_turned) in states.items()}
     board = GraphBoard(part, rows, cells, graph, name_of)
     for one in part.code:
         board.do(one)
     found = {name_of(name) if SUBSCRIPT.search(name) else f"{name}_next": board.rows[name] for name in board.written}
-    found.update((f"{text.lstrip('~')}_next", board.cells[cell] ^ text.startswith("~")) for cell, text in states.items()
-                 if f"{text.lstrip('~')}_next" not in found)
+    found.update((f"{name}_next", board.cells[cell] ^ is_turned) for cell, (name, is_turned) in states.items() if f"{name}_next" not in found)
     if others := [name for name in graph.inputs if name not in asked.inputs]:
         raise Fault(f"the loop of {shape.name} reads {others[0]}, which the block as it is written does not read: it has no graph of the block")
     graph.outputs = {name: found[name] for name in asked.outputs if name in found}

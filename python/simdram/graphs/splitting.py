@@ -47,10 +47,10 @@ class Splitter:
         self.kept: dict[str, Cone] = {}
 
     def pieces(self) -> list[Netlist]:
-        self.spread(())
+        self.spread()
         for group in self.groups():
             self.states(group)
-            self.spread(group)
+            self.spread()
         for name in self.net.words:
             self.keep(name)
         self.flush()
@@ -65,8 +65,8 @@ class Splitter:
         groups = (tuple(one for one in self.net.states if one in reach[state] and state in reach[one]) for state in reach)
         return sorted(dict.fromkeys(groups), key=lambda group: len(reach[group[0]]))
 
-    def spread(self, group: typing.Sequence[str]) -> None:
-        """The cones of the signals that are known now, after a group of states; those that grow too large are cut."""
+    def spread(self) -> None:
+        """The cones of the signals that are known now; those that grow too large are cut."""
         done = {one for one in self.net.states if f"{one}{AT}" in self.cones}
         for name in self.order:
             if name in self.cones or not self.needs[name] <= done:

@@ -239,11 +239,9 @@ def equal_states(graph: Graph) -> Values:
     All states begin as equal to 0. A class is split by the next values, with each state replaced by the first of its class,
     until nothing splits: what stays together is equal at every width, by induction over the positions.
     """
-    classes = {number: 0 for number in range(len(graph.states))}
+    classes = dict.fromkeys(range(len(graph.states)), 0)
     while True:
-        first: dict[int, int] = {}
-        for number, its in classes.items():
-            first.setdefault(its, number)
+        first = {its: number for number, its in reversed(classes.items())}
         values = {graph.leaf(kind, number): graph.leaf(kind, first[its]) if its else 0
                   for number, its in classes.items() for kind in (STATE, LAST)}
         known: Values = {}

@@ -9,7 +9,7 @@ from ..launcher import run_program
 from ..launcher.parallel import in_parallel
 from ..rules.op_tree import BIT, WORD, Body, Op, made_by
 from .statement_alone import Alone, Cost, Costs, alone
-from .statement_cache import StatementCache
+from .statement_cache import Kept, StatementCache
 from .timed import TimeOver, Timed
 
 # the status of `compile` where the text is refused
@@ -40,9 +40,7 @@ class Measured:
 
     def __init__(self, timed: Timed, widths: typing.Sequence[int], workers: int = 1, cache: StatementCache | None = None) -> None:
         self.timed, self.widths, self.workers = timed, list(widths), workers
-        # of each statement its own commands and scratch rows at each width; None where it is refused
-        self.kept: dict[Alone, Costs | None] = {}
-        self.cache = cache.kept if cache else {}
+        self.kept: Kept = cache.kept if cache else {}
         # what this search has asked for: its guesses do not depend on what others have measured
         self.asked: set[Alone] = set()
 
@@ -97,7 +95,7 @@ class Measured:
         """
         total = {n: Cost(0, 0) for n in self.widths}
         for one in parts.statements:
-            costs = self.kept[one] if one in self.asked else {n: Cost(int(one.guess * n), 0) for n in self.widths}
+            costs = self.kept[one.key] if one in self.asked else {n: Cost(int(one.guess * n), 0) for n in self.widths}
             if costs is None:
                 return None
             total = {n: Cost(its.commands + costs[n].commands, max(its.rows, costs[n].rows)) for n, its in total.items()}
@@ -105,11 +103,8 @@ class Measured:
 
     def is_known(self, one: Alone) -> bool:
         """Whether a statement was measured, now or before."""
-        if one not in self.kept and one.key in self.cache:
-            costs = self.cache[one.key]
-            if costs is None or all(str(n) in costs for n in self.widths):
-                self.kept[one] = costs and {n: Cost(*costs[str(n)]) for n in self.widths}
-        return one in self.kept
+        costs = self.kept.get(one.key, {})
+        return costs is None or all(n in costs for n in self.widths)
 
     def _measure(self, statements: typing.Iterable[Alone]) -> None:
         """Measures what is not known yet, on all processors; a test guesses instead."""
@@ -136,5 +131,4 @@ class Measured:
                 self._probe([one])
             return
         for one, costs in zip(statements, found.costs if found else [None]):
-            own = costs and {n: one.own_cost(n, cost) for n, cost in costs.items()}
-            self.kept[one], self.cache[one.key] = own, own and {str(n): list(cost) for n, cost in own.items()}
+            self.kept[one.key] = costs and {n: one.own_cost(n, cost) for n, cost in costs.items()}

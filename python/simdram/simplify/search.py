@@ -107,7 +107,7 @@ class Search:
         """How dear a body is guessed to be."""
         return self.score(self.measured.guess(parts))[0]
 
-    def best_of(self, items: Items, plans: typing.Iterable[Plan], best: Found = Found(WORST, None, None)) -> Found:
+    def best_of(self, items: Items, plans: typing.Iterable[Plan], best: Found) -> Found:
         """A better plan among some, or the one so far: the most promising are measured, a few at a time, up to the first that is."""
         left = self.candidates(items, plans)
         while left:

@@ -27,24 +27,23 @@ class Alone(typing.NamedTuple):
     commands of a position."""
 
     text: str
-    reads: tuple[str, ...]
+    reads: tuple[tuple[str, str], ...]
     makes: tuple[str, ...]
     guess: float
 
     @property
     def key(self) -> str:
         """What its cost is kept by."""
-        return f"{self.text}# {', '.join(self.reads)}"
+        return f"{self.text}# {', '.join(f'{name}: {kind}' for name, kind in self.reads)}"
 
     def probe(self, name: str) -> str:
         """An op that does the statement, with words by `zero` and bits by `not`."""
-        pairs = (pair.split(": ") for pair in self.reads)
-        lines = [f"  {what} = {'zero()' if kind == WORD else 'not(s)'};\n" for what, kind in pairs]
+        lines = [f"  {what} = {'zero()' if kind == WORD else 'not(s)'};\n" for what, kind in self.reads]
         return f"op {name}(a: word, s: bit) -> y: word {{\n{''.join(lines)}{self.text}  y = zero();\n}}\n"
 
     def own_cost(self, n: int, cost: Cost) -> Cost:
         """What the statement itself takes of its probe's cost at a width."""
-        made, words = self.makes.count(WORD) * n + self.makes.count(BIT), sum(name.endswith(WORD) for name in self.reads)
+        made, words = self.makes.count(WORD) * n + self.makes.count(BIT), sum(kind == WORD for _, kind in self.reads)
         bits = len(self.reads) - words
         return Cost(cost.commands - (words + 1) * ZERO * n - bits * NOT_BIT, cost.rows - words * n - bits - made)
 
@@ -104,7 +103,7 @@ def alone(one: Statement, kinds: typing.Mapping[str, str]) -> Alone:
     plain = by_places(normal(one), names)
     made = dict(made_by(one, kinds))
     own = set(made) if isinstance(one, WordStatement) else {*made, *dict(one.lets)}
-    reads = tuple(f"{place}: {kinds[name]}" for name, place in names.items() if name not in own)
+    reads = tuple((place, kinds[name]) for name, place in names.items() if name not in own)
     return Alone(body_text([plain]), reads, tuple(made.values()), guessed(one, kinds))
 
 

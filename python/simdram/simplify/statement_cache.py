@@ -3,13 +3,16 @@
 import contextlib
 import hashlib
 import json
+import operator
 import os
 import pathlib
 import typing
 
+from .statement_alone import Cost, Costs
+
 FOLDER = "SIMDRAM_CACHE"
-# by a statement's text, then by width, its commands and scratch rows; None where it is refused
-Kept = dict[str, dict[str, list[int]] | None]
+# by a statement's key its own commands and scratch rows at each width; None where it is refused
+Kept = dict[str, Costs | None]
 
 
 def folder() -> pathlib.Path:
@@ -58,11 +61,11 @@ def keep_for(kind: str, what: dict[str, typing.Any], name: str, found: typing.An
 
 def checked(found: typing.Any) -> Kept:
     """What a file keeps, without what has another form."""
-    def is_cost(costs: typing.Any) -> bool:
-        return costs is None or isinstance(costs, dict) and all(
-            isinstance(one, list) and len(one) == 2 and all(isinstance(number, int) for number in one) for one in costs.values())
-
-    return {key: costs for key, costs in found.items() if is_cost(costs)} if isinstance(found, dict) else {}
+    kept: Kept = {}
+    for key, costs in found.items() if isinstance(found, dict) else ():
+        with contextlib.suppress(AttributeError, TypeError, ValueError):
+            kept[key] = None if costs is None else {int(n): Cost(*map(operator.index, its)) for n, its in costs.items()}
+    return kept
 
 
 class StatementCache:
