@@ -50,12 +50,10 @@ def check_range(numbers: numpy.ndarray, bits: int, signed: bool = False) -> None
     least, past = (-(1 << bits - 1), 1 << bits - 1) if signed else (0, 1 << bits)
     if least <= int(numbers.min()) and int(numbers.max()) < past:
         return
-    outside = numpy.array([not least <= int(number) < past for number in numbers.ravel()])
-    place = int(outside.argmax())
+    place, number = next((k, int(one)) for k, one in enumerate(numbers.ravel()) if not least <= int(one) < past)
     index = ", ".join(map(str, numpy.unravel_index(place, numbers.shape)))
     said = f"the number at [{index}]" if index else "the number"
     hold = f"{bits} bits hold" if bits > 1 else "1 bit holds"
-    number = int(numbers.ravel()[place])
     more = "; signed=True places numbers below 0" if number < 0 and not signed else ""
     raise Refused("range", f"{said} is {number}, and {hold} {least} to {past - 1}{more}", place + 1)
 

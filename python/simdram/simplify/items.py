@@ -61,32 +61,28 @@ class Items:
 
     def _join(self) -> None:
         """States that read each other are one component."""
-        graph = self.graph
-        reach = {state: {leaf.ident for leaf in graph.reached(self.rule(state)) if leaf.kind == STATE} for state in self.needed}
-        for middle in reach:
-            for state in reach:
-                if middle in reach[state]:
-                    reach[state] |= reach[middle]
+        reach = {state: {leaf.ident for leaf in self.graph.reached(self.rule(state)) if leaf.kind == STATE} for state in self.needed}
+        for middle, its in reach.items():
+            for other in reach.values():
+                if middle in other:
+                    other |= its
         for state in sorted(self.needed):
             if state not in self.component:
                 joined = frozenset([state, *(other for other in reach[state] if state in reach.get(other, ()))])
+                self.component.update(dict.fromkeys(joined, len(self.components)))
                 self.components.append(joined)
-                self.component.update((one, len(self.components) - 1) for one in joined)
 
     def _optional(self) -> list[int]:
         """The words of the text that are on the way to a result."""
-        reached: set[int] = set()
-        roots = [*self.words, *(lit for _, _, lit in self.lowered.results), *map(self.rule, self.needed)]
-        for lit in roots:
-            self.graph.cone(lit, reached)
-        # notes which literals are read: an inverted and is an or of the opposites
-        todo = list(roots)
+        todo = [*self.words, *(lit for _, _, lit in self.lowered.results), *map(self.rule, self.needed)]
         while todo:
             lit = todo.pop()
             if lit not in self.read:
                 self.read.add(lit)
                 node = self.graph.node(lit)
+                # an inverted and is an or of the opposites
                 todo += [arg ^ (lit & 1 if node.kind == "and" else 0) for arg in node.args]
+        reached = {lit >> 1 for lit in self.read}
         return [lit for lit in dict.fromkeys(self.lowered.optional)
                 if not {lit, lit ^ 1}.intersection(self.words) and lit >> 1 in reached and self.needs_row(lit)]
 

@@ -3,7 +3,7 @@
 import typing
 
 from ..rules.op_tree import BIT, TO_BIT, WORD, Block, Body, WordStatement, gate, read
-from .gates import WHOLE
+from .gates import WHOLE, Form
 from .items import Items
 from .plans import NoOp, Order, Plan
 from .spelling import named
@@ -67,32 +67,25 @@ class Statements:
         op = ("div", "rem")[places[0]] if form.op == "divmod" and len(places) == 1 else form.op
         self.call([self.name(self.graph.leaf(WHOLE, number, place), WORD) for place in places], op, args)
 
-    def gate_form(self, lit: int) -> tuple[str, list[int]] | None:
+    def gate_form(self, lit: int) -> Form | None:
         """The word operation of a literal's gate; a choice's bit comes last."""
-        node = self.graph.node(lit)
-        if node.kind == "and":
-            return ("or", [arg ^ 1 for arg in node.args]) if lit & 1 else ("and", list(node.args))
-        if lit & 1 or node.kind not in ("xor", "mux"):
+        kind, args = self.graph.node(lit)[:2]
+        if kind == "and":
+            return Form("or", tuple(arg ^ 1 for arg in args)) if lit & 1 else Form("and", args)
+        if lit & 1 or kind not in ("xor", "mux"):
             return None
-        return ("xor", list(node.args)) if node.kind == "xor" else ("if_else", [*node.args[1:], node.args[0]])
+        return Form("xor", args) if kind == "xor" else Form("if_else", (*args[1:], args[0]))
 
     def word_form(self, lit: int) -> Call | None:
         """A word statement for a word whose arguments stand already."""
         if self.items.bits_only(lit):
             return None
-        for op, args in sorted(self.graph.forms.get(lit, []), key=lambda form: form.op == "add"):
-            if op not in TO_BIT and all(arg in self.standing for arg in args):
-                return op, [self.standing[arg] for arg in args]
-        if lit < 2:
-            return ("ones" if lit else "zero"), []
-        if lit ^ 1 in self.standing:
-            return "not", [self.standing[lit ^ 1]]
-        form = self.gate_form(lit)
-        if form is None or form[0] == "if_else" and not self.items.bits_only(form[1][2]):
-            return None
-        if all(arg in self.standing for arg in form[1]) and not any(map(self.items.bits_only, form[1][:2])):
-            return form[0], [self.standing[arg] for arg in form[1]]
-        return None
+        forms = [form for form in sorted(self.graph.forms.get(lit, []), key=lambda form: form.op == "add") if form.op not in TO_BIT]
+        forms.append(Form("ones" if lit else "zero", ()) if lit < 2 else Form("not", (lit ^ 1,)))
+        made = self.gate_form(lit)
+        if made and not any(map(self.items.bits_only, made.args[:2])) and all(map(self.items.bits_only, made.args[2:])):
+            forms.append(made)
+        return next(((op, [self.standing[arg] for arg in args]) for op, args in forms if all(arg in self.standing for arg in args)), None)
 
     def bit(self, lit: int) -> str:
         """The name of a bit, by statements on bits where it is no one's yet."""
