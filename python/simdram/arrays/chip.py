@@ -155,7 +155,10 @@ class Chip:
         self._sweep()
         for by_digits, is_last in ((True, False), (True, False), (False, True)):
             targets = simplified([array.value for array in arrays], by_digits)
-            left = [(array, target) for array, target in zip(arrays, targets) if not settled(array, target)]
+            for array, target in zip(arrays, targets):
+                if not array.shape and isinstance(target.origin, Constant):  # a number that no command computes
+                    array.settle(target.origin, Made())
+            left = [(array, target) for array, target in zip(arrays, targets) if array.made is None]
             try:
                 if left:
                     scripts, made = self._in_few_ops([target for _, target in left], count)
@@ -212,14 +215,6 @@ class Chip:
             held = origins[name] if whole is target else Held(name, made, low, Value(whole.kind, whole.bits, origins[name]))
             number = None if array.shape else Constant((self.image.get(name)[0] >> low) % 2**array.bits, made)
             array.settle(number or held, made)
-
-
-def settled(array: Array, target: Value) -> bool:
-    """Whether an array of no dimensions is a number that no command computes, which it is from now on."""
-    is_number = not array.shape and isinstance(target.origin, Constant)
-    if is_number:
-        array.settle(target.origin, Made())
-    return is_number
 
 
 def compute(*arrays: Array) -> None:

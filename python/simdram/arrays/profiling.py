@@ -4,8 +4,9 @@ import dataclasses
 import typing
 
 from ..costs.profile import Row, table
+from ..costs.report import OK
 from .costing import Cost
-from .running import DONE, Made, computes
+from .running import Made, computes
 from .user_ops import known_ops
 
 HEAD = ("share", "commands", "aap", "ap", "times")
@@ -48,7 +49,7 @@ def profile(made: Made) -> ScriptProfile:
 def counted(made: Made) -> list[Row]:
     """The lines that compute, each with what the report says of it."""
     reported = (line for line in made.report.splitlines() if not line.startswith("total "))
-    pairs = [(line, DONE.fullmatch(report)) for line, report in zip(made.script.splitlines(), reported)]
+    pairs = [(line, OK.fullmatch(report)) for line, report in zip(made.script.splitlines(), reported)]
     return [Row(line, int(match[2]), int(match[3]), 1) for line, match in pairs if match and computes(line)]
 
 

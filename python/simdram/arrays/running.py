@@ -1,8 +1,8 @@
 """A script of bbops on an image, done by the program, and what its report says."""
 
-import re
 import typing
 
+from ..costs.report import OK, REFUSED, TOTAL
 from ..files.image import Image
 from ..files.program import Entry, Program
 from ..files.store import folder_of, load, store
@@ -11,10 +11,6 @@ from .costing import Cost, total
 from .expressions import each_once
 from .refusals import Refused, Stopped
 
-DONE = re.compile(r"(\d+) ok aap=(\d+) ap=(\d+)")
-TOTAL = re.compile(r"total aap=\d+ ap=\d+ writes=(\d+) reads=(\d+) refused=\d+")
-REFUSED = re.compile(r"(\d+) refused (\w+)(?: (\d+))?")
-OPS_MOST = 32
 # what helps against a refusal
 HELP = {
     "no_rows": "; a chip of more rows has room, or one where arrays that are done with are deleted",
@@ -42,8 +38,7 @@ class Made(typing.NamedTuple):
     def whole(self) -> "Made":
         """All that was done for it, as one."""
         parts = self.all()
-        texts = ("".join(dict.fromkeys(getattr(one, name) for one in parts)) for name in ("text", "ops", "text_as_written"))
-        text, ops, written = texts
+        text, ops, written = ("".join(dict.fromkeys(getattr(one, name) for one in parts)) for name in ("text", "ops", "text_as_written"))
         return Made(text, "".join(one.script for one in parts), "".join(one.report for one in parts),
                     total([one.cost for one in parts]), ops, written)
 
@@ -108,15 +103,15 @@ def refusal(script: Script, ended: run_program.Ended) -> Refused:
     for line in ended.out.splitlines():
         if match := REFUSED.fullmatch(line):
             line = script.lines[int(match[1]) - 1]
-            return Refused(match[2], line + HELP.get(match[2], ""), match[3] and int(match[3]))
+            return Refused(match[2], line + HELP.get(match[2], ""), int(match[3]) if match[3] else None)
     raise Stopped("run", ended)
 
 
 def cost(report: str, counted: typing.Iterable[int], image: Image) -> Cost:
     """The row commands of these lines of a report, over all banks, and the rows that the script's lines wrote and read."""
     kept = set(counted)
-    done = [match for match in filter(None, map(DONE.fullmatch, report.splitlines())) if int(match[1]) in kept]
+    done = [match for match in filter(None, map(OK.fullmatch, report.splitlines())) if int(match[1]) in kept]
     whole = TOTAL.fullmatch(report.splitlines()[-1])
     rows = image.banks * image.rows
     return Cost(sum(int(match[2]) for match in done), sum(int(match[3]) for match in done),
-                host_writes=int(whole[1]) - rows, host_reads=int(whole[2]) - rows)
+                host_writes=int(whole[3]) - rows, host_reads=int(whole[4]) - rows)

@@ -6,12 +6,12 @@ import typing
 
 from ..files.program import Entry
 from ..rules.op_tree import Op
-from ..rules.ops_rules import read_ops
+from ..rules.ops_rules import OPS, read_ops
 from .cutting import Part, can_join, renamed, text_of
 from .expressions import Constant, Held, Step, Value
 from .layout import Join, Product, Slice, whole_of
 from .own_programs import OwnProgram
-from .running import OPS_MOST, Script
+from .running import Script
 from .simpler_texts import Texts
 
 COPY, SPREAD, GATE, STEP = read_ops(b"""
@@ -116,7 +116,7 @@ class Scripts:
         """The op of a text, or an entry shown by it, is one of the script's; of a new one, where that has 32."""
         self.written[written] = None
         if text not in self.scripts[-1].ops:
-            if len(self.scripts[-1].ops) == OPS_MOST:
+            if len(self.scripts[-1].ops) == OPS:
                 self.scripts.append(Script())
             self.scripts[-1].ops[text] = entry
 

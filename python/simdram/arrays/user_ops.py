@@ -88,10 +88,8 @@ def op(text: str, name: str | None = None) -> Op:
         return next(iter(found.values()))
     if name in found:
         return found[name]
-    there = ", ".join(found) or "none"
-    if name is None:
-        raise ValueError(f"simdram.op takes name= where a text has not one op; this one has {there}")
-    raise ValueError(f"the text has no op {name}; it has {there}")
+    said = "simdram.op takes name= where a text has not one op; this one" if name is None else f"the text has no op {name}; it"
+    raise ValueError(f"{said} has {', '.join(found) or 'none'}")
 
 
 def canonical(text: str) -> str:

@@ -29,23 +29,18 @@ from .netlist import NEXT, Netlist, Table, in_order
 from .splitting import function, split
 
 
-class Names:
-    """Names of the language for those of a netlist."""
+class Names(dict[str, str]):
+    """Names of the language for those of a netlist: a signal's own where it is one of the language."""
 
-    def __init__(self) -> None:
-        self.of: dict[str, str] = {}
-
-    def name(self, signal: str) -> str:
-        """The name of a signal: its own where it is one of the language."""
-        if signal not in self.of:
-            base = re.sub(r"\W+", "_", signal, flags=re.ASCII).strip("_")[:NAME_MAX] or "n"
-            base = base if re.match(r"[A-Za-z_]", base) and base not in (*RESERVED, *GATES, "trsp_init") else f"n{base}"[:NAME_MAX]
-            taken, made, count = set(self.of.values()), base, 0
-            while made in taken:
-                count += 1
-                made = f"{base[:NAME_MAX - len(str(count)) - 1]}_{count}"
-            self.of[signal] = made
-        return self.of[signal]
+    def __missing__(self, signal: str) -> str:
+        base = re.sub(r"\W+", "_", signal, flags=re.ASCII).strip("_")[:NAME_MAX] or "n"
+        base = base if re.match(r"[A-Za-z_]", base) and base not in (*RESERVED, *GATES, "trsp_init") else f"n{base}"[:NAME_MAX]
+        taken, made, count = set(self.values()), base, 0
+        while made in taken:
+            count += 1
+            made = f"{base[:NAME_MAX - len(str(count)) - 1]}_{count}"
+        self[signal] = made
+        return made
 
 
 def expression(table: Table, held: dict[str, Expr]) -> Expr:
@@ -62,7 +57,7 @@ def text_of(net: Netlist, path: str, direction: str, starts: dict[str, str], bit
         raise Fault(f"{path}: an op has 1 to {SOURCES} parameters, and the netlist 0 inputs that are no states")
     # the op's own names come first, so that they are kept where they can be
     names, order = Names(), in_order(net, path)
-    own = {one: names.name(one) for one in (*net.sources, *net.states, *net.words)}
+    own = {one: names[one] for one in (*net.sources, *net.states, *net.words)}
     reads = collections.Counter(net.outputs)
     for table in map(net.tables.__getitem__, order):
         inputs = dict(zip("xyz", table.inputs))
@@ -72,14 +67,14 @@ def text_of(net: Netlist, path: str, direction: str, starts: dict[str, str], bit
         held[one] = expression(net.tables[one], held)
         if reads[one] > 1:
             # the let of an output has another name than the output
-            lets.append((names.name(f"{one}_let" if one in net.outputs else one), held[one]))
+            lets.append((names[f"{one}_let" if one in net.outputs else one], held[one]))
             held[one] = read(lets[-1][0])
     params = tuple((own[one], BIT if one in bits else WORD) for one in net.sources)
     results = [(own[one], WORD) for one in net.words]
     results += [(own[one], BIT) for one in net.states if gives_states or not net.words]
     assigns = [(own[one], held[one]) for one in net.words] + [(own[one], held[one + NEXT]) for one in net.states]
     states = tuple((own[one], int({**net.starts, **starts}.get(one, 0))) for one in net.states)
-    changed = "".join(f"# {its} is {one}\n" for its, one in names.of.items() if its != one)
+    changed = "".join(f"# {its} is {one}\n" for its, one in names.items() if its != one)
     return changed + Op(net.name, params, tuple(results[:RESULTS]), [Block(direction, states, tuple(lets), tuple(assigns))]).text()
 
 
@@ -97,10 +92,10 @@ def calls(net: Netlist, nets: list[Netlist], path: str) -> str:
         return ""
     said = f"{len(net.sources)} inputs and {len(net.words)} outputs, where an op has {SOURCES} and {RESULTS} at most: {len(nets)} ops"
     print(f"{path}: {said}, which comments call in order", file=sys.stderr)
+    # the names of the whole come first
     names = Names()
-    for one in (*net.sources, *net.words):
-        names.name(one)
-    lines = [f"bbop_{one.name} {', '.join(names.name(its) for its in (*one.words, *one.sources))}, COUNT, N" for one in nets]
+    names.update((one, names[one]) for one in (*net.sources, *net.words))
+    lines = [f"bbop_{one.name} {', '.join(names[its] for its in (*one.words, *one.sources))}, COUNT, N" for one in nets]
     return "".join(f"# {line}\n" for line in [said, *lines])
 
 
@@ -121,7 +116,7 @@ def main(asked: Asked) -> None:
     unknown = [one for one in [*asked.bit, *starts] if one not in (net.sources if one in asked.bit else net.states)]
     if unknown:
         raise Fault(f"{asked.file} has no {'input' if unknown[0] in asked.bit else 'state'} {unknown[0]}")
-    net.name = Names().name(asked.name or net.name)
+    net.name = Names()[asked.name or net.name]
     nets = split(net, asked.file)
     direction = "down" if asked.down else "up"
     text = calls(net, nets, asked.file) + "".join(text_of(one, asked.file, direction, starts, asked.bit, len(nets) == 1) for one in nets)

@@ -81,8 +81,8 @@ class BlockWriter:
         inside = {self.graph.leaf(STATE, state) ^ turn: name for state, (name, turn) in self.kept.items()}
         spelling = Spelling(self.items, dict(self.plan.spelling).get(self.group, 0), inside, made.standing)
         nexts = [self.items.rule(state) ^ self.kept[state][1] for state in self.states]
-        counts, order = uses(self.graph, [*self.words, *nexts], spelling, self._on_bits)
-        lets = self._lets(spelling, [number for number in order if counts[number] > 1][:LETS])
+        counts = uses(self.graph, [*self.words, *nexts], spelling, self._on_bits)
+        lets = self._lets(spelling, [number for number, count in counts.items() if count > 1][:LETS])
         words = [spelling.expr(lit) for lit in self.words]
         values = [(self.kept[state][0], spelling.expr(lit)) for state, lit in zip(self.states, nexts)]
         assigns = [(made.name(lit, WORD), value) for lit, value in zip(self.words, words)]

@@ -6,12 +6,10 @@ import typing
 from ..files.store import folder_of
 from ..launcher import run_program
 from ..rules.op_tree import Op
-from ..rules.verdicts import RIGHT, UNKNOWN, WRONG, verdicts_of
+from ..rules.verdicts import RIGHT, UNKNOWN, VERIFIED, WRONG, verdicts_of
 from .cut import cut
 from .timed import TimeOver, Timed
 
-# the statuses under which `verify` has a line for the op
-SAID = (0, 19, 20)
 # widths at which every new text is compared besides those that are asked for
 ALWAYS = (1, 2, 3, 4)
 
@@ -51,7 +49,7 @@ class Comparer:
 
     def _verdict(self, folder: str, width: int) -> str:
         ended = self._run(["verify", "meant", "prog", width], folder)
-        found = verdicts_of(ended.out) if ended is not None and ended.status in SAID else []
+        found = verdicts_of(ended.out) if ended is not None and ended.status in VERIFIED else []
         return found[0].kind if found and found[0].kind in (RIGHT, WRONG) else UNKNOWN
 
     def equal(self, old: Op, new: Op, widths: typing.Sequence[int], program: bytes = b"") -> Equality:

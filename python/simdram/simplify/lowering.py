@@ -2,7 +2,7 @@
 
 import typing
 
-from ..rules.op_tree import ALIKE, BIT, TO_BIT, WORD, Block, Expr, Op, WordStatement
+from ..rules.op_tree import BIT, WORD, Block, Expr, Op, WordStatement, made_by
 from .forms import Forms
 from .gates import STATE, StateRule, equal_states, settle
 
@@ -40,13 +40,10 @@ class Lowered(Forms):
             self.optional.append(lit)
 
     def _word(self, one: WordStatement) -> None:
-        kinds, args = zip(*(self.values[arg] for arg in one.args)) if one.args else ((), ())
-        if one.op == "divmod":
-            for name, lit in zip(one.targets, self.divide(*args)):
-                self._keep(name, WORD, lit)
-            return
-        kind = BIT if one.op in TO_BIT else kinds[0] if one.op in ALIKE else WORD
-        self._keep(one.targets[0], kind, self.value(one.op, args))
+        args = [self.values[arg][1] for arg in one.args]
+        lits = self.divide(*args) if one.op == "divmod" else (self.value(one.op, args),)
+        for (name, kind), lit in zip(made_by(one, {arg: self.values[arg][0] for arg in one.args}), lits):
+            self._keep(name, kind, lit)
 
     def _block(self, block: Block) -> None:
         graph, now, states = self.graph, {}, {}

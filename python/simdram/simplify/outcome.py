@@ -3,11 +3,12 @@
 import dataclasses
 import typing
 
+from ..rules.verdicts import RIGHT, UNKNOWN, WRONG
 from .equal import Equality
 from .search import Simpler
 
 # an op as it was; another text that is equal; one of which that is not known; one that differs
-STAYS, EQUAL, UNKNOWN, WRONG = "stays", "equal", "unknown", "wrong"
+STAYS, EQUAL = "stays", "equal"
 
 
 def listed(widths: typing.Iterable[int]) -> str:
@@ -53,8 +54,7 @@ class Outcome:
     def _known(self, before: bytes) -> str:
         if self.equality is None:
             return f"unchanged: nothing cheaper found{'' if self.simpler.is_whole else ' in the time'}"
-        asked = [width for width in self.simpler.before if width in self.equality.verdicts]
-        equal = [width for width in asked if width not in self.equality.at(UNKNOWN) + self.equality.at(WRONG)]
+        equal = [width for width in self.simpler.before if self.equality.verdicts.get(width) == RIGHT]
         if self.kind == UNKNOWN and not self.is_taken and not equal:
             return f"unchanged: another text was found, and not {'compared in the time' if self.equality.is_late else 'known to be equal'}"
         said = [f"equal at {listed(equal)}" if equal else "equal at no width"]

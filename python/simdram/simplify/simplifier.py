@@ -1,7 +1,7 @@
 """The ops of a text, each simplified and compared with what it was, in a time."""
 
 import dataclasses
-import threading
+import itertools
 
 from ..launcher.faults import Fault
 from ..launcher.parallel import in_parallel, processors
@@ -34,19 +34,10 @@ class Options:
     compared: tuple[int, ...] = ALWAYS
 
 
-class Shares:
-    """Shares of a time for works of which some run at once: each has its part of what is left."""
-
-    def __init__(self, until: float, works: int) -> None:
-        self.until, self.left, self.lock = until, works, threading.Lock()
-
-    def next(self) -> float:
-        """When the next work has to end."""
-        with self.lock:
-            turns = -(-self.left // processors())
-            self.left -= 1
-        now = spent()
-        return now + max(0.0, self.until - now) / max(turns, 1)
+def share_of(until: float, left: int) -> float:
+    """When the next of so many works has to end, of which some run at once: each has its part of what is left of a time."""
+    now = spent()
+    return now + max(0.0, until - now) / -(-left // processors())
 
 
 class Simplifier:
@@ -65,10 +56,10 @@ class Simplifier:
         cache = StatementCache(self.timed.program)
         # the processors are for the ops, or for the statements of the only one
         measured = Measured(self.timed, self.options.widths, processors() if len(ops) == 1 else 1, cache)
-        before, shares = self._before(measured, data), Shares(self.timed.until, len(ops))
+        before, left = self._before(measured, data), itertools.count(len(ops), -1)
 
         def worked(pair: tuple[Op, Costs]) -> Outcome:
-            share, now = shares.next(), spent()
+            share, now = share_of(self.timed.until, next(left)), spent()
             mine = measured.until_then(now + SEARCHED * (share - now))
             return self.compared(Search(pair[0], mine, pair[1], self.options.keeps_rows, share).run(), share)
 

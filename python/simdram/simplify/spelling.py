@@ -87,27 +87,25 @@ class Spelling:
         return gate("not", parts[0]) if flip else parts[0]
 
 
-def uses(graph: Graph, roots: typing.Iterable[int], spelling: Spelling,
-         on_bits: typing.Callable[[int], bool]) -> tuple[dict[int, int], list[int]]:
-    """How often each gate is read, and the gates in an order in which they can be written.
+def uses(graph: Graph, roots: typing.Iterable[int], spelling: Spelling, on_bits: typing.Callable[[int], bool]) -> dict[int, int]:
+    """How often each gate is read, in an order in which they can be written.
 
     `on_bits` deals with what is of bits alone, and tells whether it did.
     """
     counts: dict[int, int] = {}
-    order: list[int] = []
 
     def go(lit: int) -> None:
         if spelling.named(lit) or on_bits(lit):
             return
         number, node = lit >> 1, graph.node(lit)
-        counts[number] = counts.get(number, 0) + 1
-        if counts[number] == 1:
+        if number not in counts:
             for arg in node.args:
                 go(arg)
             if node.kind == "mux" and spelling.style < 2:
                 go(node.args[0] if spelling.style == 0 else node.args[2])
-            order.append(number)
+            counts[number] = 0
+        counts[number] += 1
 
     for root in roots:
         go(root)
-    return counts, order
+    return counts
