@@ -185,14 +185,11 @@ class Chip:
 
     def _done(self, scripts: Scripts) -> Made:
         """Does scripts one after another, or none of them."""
-        before, done = self.image, []
-        try:
-            for script in filter(lambda one: one.lines, scripts.scripts):
-                done.append(run(script, self.image))
-                self.image = done[-1].image
-        except BaseException:
-            self.image = before
-            raise
+        image, done = self.image, []
+        for script in filter(lambda one: one.lines, scripts.scripts):
+            done.append(run(script, image))
+            image = done[-1].image
+        self.image = image
         banks = self.image.banks_of(scripts.count)
         for one in done:
             self.spend(dataclasses.replace(one.all_lines, banks=banks))

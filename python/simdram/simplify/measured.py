@@ -5,7 +5,6 @@ import typing
 
 from ..costs.costs import cost_of
 from ..files.store import folder_of, load
-from ..launcher import run_program
 from ..launcher.parallel import in_parallel
 from ..rules.op_tree import BIT, WORD, Body, Op, made_by
 from .statement_alone import Alone, Cost, Costs, alone
@@ -50,21 +49,18 @@ class Measured:
         other.timed, other.asked = self.timed.until_then(until), set()
         return other
 
-    def run(self, words: typing.Sequence[typing.Any], folder: str) -> run_program.Ended:
-        ended = self.timed.run(words, folder)
-        if ended.status != REFUSED:
-            ended.check(words[0])
-        return ended
-
     def compiled(self, text: str, also: typing.Iterable[int] = ()) -> Compiled | None:
         """The program file of a text and the costs of its ops; nothing where the text is refused or an op is stuck."""
         with folder_of(ops=text.encode()) as folder:
-            if self.run(["compile", "ops", "prog"], folder).status:
+            ended = self.timed.run(["compile", "ops", "prog"], folder)
+            if ended.status == REFUSED:
                 return None
+            ended.check("compile")
             found: list[Costs] = []
             for width in dict.fromkeys([*self.widths, *also]):
-                lines = self.run(["cost", "prog", width], folder).out.splitlines()
-                costs = [cost_of(line) for line in lines]
+                ended = self.timed.run(["cost", "prog", width], folder)
+                ended.check("cost")
+                costs = [cost_of(line) for line in ended.out.splitlines()]
                 if any(cost.stuck for cost in costs):
                     return None
                 found = found or [{} for _ in costs]
