@@ -71,13 +71,8 @@ def cells_of(numbers: numpy.ndarray, bits: int) -> bytes:
     size = columns.size_of(bits)
     if numbers.dtype == object:
         return columns.cells_with([int(number) for number in numbers.ravel()], size)
-    narrow = numbers.astype(f"<u{min(size, 8)}", order="C").tobytes()
-    if size < 16:
-        return narrow
-    wide = bytearray(2 * len(narrow))
-    for at in range(8):
-        wide[at::16] = narrow[at::8]
-    return bytes(wide)
+    flat = numbers.astype(f"<u{min(size, 8)}").ravel()
+    return flat.tobytes() if size < 16 else numpy.stack([flat, numpy.zeros_like(flat)], axis=1).tobytes()
 
 
 def array_of(cells: bytes, size: int, kind: str, shape: tuple[int, ...]) -> numpy.ndarray:

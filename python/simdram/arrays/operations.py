@@ -56,7 +56,8 @@ op zero_if(a: word, b: bit) -> y: word {
 }
 """
 _VALUES: dict[str, typing.Callable[..., Numbers]] = {
-    "signed_gt": lambda bits, x, y: int(signed(bits, x) > signed(bits, y)), "signed_ge": lambda bits, x, y: int(signed(bits, x) >= signed(bits, y)),
+    "signed_gt": lambda bits, x, y: int(signed(bits, x) > signed(bits, y)),
+    "signed_ge": lambda bits, x, y: int(signed(bits, x) >= signed(bits, y)),
     "negative": lambda _bits, x: -x, "sign": lambda bits, x: x >> bits - 1,
     "zero_unless": lambda _bits, x, condition: x if condition else 0, "zero_if": lambda _bits, x, condition: 0 if condition else x,
 }

@@ -172,7 +172,8 @@ def of_part(block: StatementShape, shape: OpShape, part: Part, rows: RowNames, s
     for one in part.code:
         board.do(one)
     found = {name_of(name) if SUBSCRIPT.search(name) else f"{name}_next": board.rows[name] for name in board.written}
-    found.update((f"{name}_next", board.cells[cell] ^ is_turned) for cell, (name, is_turned) in states.items() if f"{name}_next" not in found)
+    for cell, (name, is_turned) in states.items():
+        found.setdefault(f"{name}_next", board.cells[cell] ^ is_turned)
     if others := [name for name in graph.inputs if name not in asked.inputs]:
         raise Fault(f"the loop of {shape.name} reads {others[0]}, which the block as it is written does not read: it has no graph of the block")
     graph.outputs = {name: found[name] for name in asked.outputs if name in found}

@@ -28,20 +28,17 @@ def fits(body: Body) -> bool:
 
 def live_block(block: Block, wanted: set[str]) -> Block | None:
     """A block without what nothing reads; the names that it reads are wanted from then on."""
-    lets, states, nexts = dict(block.lets), dict(block.states), dict(block.assigns)
-    todo, needed = [name for name in [*states, *nexts] if name in wanted], set()
+    own, nexts = dict(block.states + block.lets), dict(block.lets + block.assigns)
+    todo, needed = [name for name, _ in block.states + block.assigns if name in wanted], set()
     while todo:
         name = todo.pop()
         if name not in needed:
             needed.add(name)
-            todo += [below for part in (nexts, lets) if name in part for below in part[name].names()
-                     if below in lets or below in states]
+            todo += [below for below in nexts[name].names() if below in own] if name in nexts else []
     if not needed:
         return None
-    states = tuple(one for one in block.states if one[0] in needed)
-    lets = tuple(one for one in block.lets if one[0] in needed)
-    assigns = tuple(one for one in block.assigns if one[0] in needed) or ((states[0][0], read(states[0][0])),)
-    found = Block(block.direction, states, lets, assigns)
+    states, lets, assigns = (tuple(one for one in part if one[0] in needed) for part in (block.states, block.lets, block.assigns))
+    found = Block(block.direction, states, lets, assigns or ((states[0][0], read(states[0][0])),))
     wanted |= found.reads
     return found
 

@@ -67,9 +67,9 @@ class Simplifier:
             found = in_parallel(worked, list(zip(ops, before)), what, self.timed.stopped.set)
         finally:
             cache.save()
-        late = [k for k, one in enumerate(found) if one.equality is not None and one.equality.is_late]
-        again = in_parallel(lambda k: self.compared(found[k].simpler, self.timed.until), late, stop=self.timed.stopped.set)
-        return list({**dict(enumerate(found)), **dict(zip(late, again))}.values())
+        late = [one for one in found if one.equality and one.equality.is_late]
+        again = iter(in_parallel(lambda one: self.compared(one.simpler, self.timed.until), late, stop=self.timed.stopped.set))
+        return [next(again) if one.equality and one.equality.is_late else one for one in found]
 
     def compared(self, found: Simpler, until: float) -> Outcome:
         """A text, compared with what the op was."""

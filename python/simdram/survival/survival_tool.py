@@ -42,7 +42,7 @@ class Run(typing.NamedTuple):
 
 @dataclasses.dataclass(frozen=True)
 class Job:
-    """A guarded script on an image: its files, its cells, the program that executes it, and where files are made."""
+    """A guarded script on an image: its files, its cells, and the program that executes it."""
 
     ops: str
     script: str
