@@ -31,22 +31,20 @@ class Formula:
     """Reads a formula over pins: `!` or `'` for not, `*` or nothing for and, `^`, and `+`."""
 
     def __init__(self, text: str, pins: typing.Mapping[str, int], mask: int) -> None:
-        self.tokens, self.at, self.pins, self.mask = words_of(text), 0, pins, mask
-
-    def here(self) -> str:
-        """The next token, or nothing."""
-        return self.tokens[self.at] if self.at < len(self.tokens) else ""
+        # the tokens that are left, the next one last, and nothing where they end
+        self.tokens, self.pins, self.mask = ["", *reversed(words_of(text))], pins, mask
 
     def took(self, *tokens: str) -> bool:
         """Takes the next token if it is one of these."""
-        is_it = self.here() in tokens
-        self.at += is_it
+        is_it = self.tokens[-1] in tokens
+        if is_it:
+            self.tokens.pop()
         return is_it
 
     def value(self) -> int:
         found = self.level()
-        if self.here():
-            raise ValueError(self.here())
+        if self.tokens[-1]:
+            raise ValueError(self.tokens[-1])
         return found
 
     def level(self, depth: int = 0) -> int:
@@ -55,7 +53,7 @@ class Formula:
             return self.factor()
         signs, join = LEVELS[depth]
         found = self.level(depth + 1)
-        while self.took(*signs) or join is operator.and_ and self.here() not in ("", "+", "|", "^", ")"):
+        while self.took(*signs) or join is operator.and_ and self.tokens[-1] not in ("", "+", "|", "^", ")"):
             found = join(found, self.level(depth + 1))
         return found
 
@@ -63,8 +61,7 @@ class Formula:
         """A pin, a constant, or what stands in brackets, and how often it is complemented."""
         if self.took("!"):
             return self.mask ^ self.factor()
-        word = self.here()
-        self.at += 1
+        word = self.tokens.pop()
         if word == "(":
             found = self.level()
             if not self.took(")"):

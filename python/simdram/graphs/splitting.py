@@ -110,7 +110,8 @@ class Splitter:
                         f"position, where an op takes {SOURCES}, and gates that weigh {sum(weight(self.net.tables[one]) for one in cone.tables)} of {WEIGHT}")
         self.flush()
         for first in range(0, len(group), RESULTS):
-            self.found.append(self.of_states(group, group[first:first + RESULTS], cone))
+            shown = {f"{one}{AT}": Table(0, (one,), COPY) for one in group[first:first + RESULTS]}
+            self.add(cone, [*shown, *(one + NEXT for one in group)], group).tables.update(shown)
         for one in group:
             self.cones[f"{one}{AT}"] = Cone(frozenset((f"{one}{AT}",)), frozenset())
 
@@ -127,13 +128,12 @@ class Splitter:
         table = self.net.tables[name]
         return Table(table.line, tuple(one if one in group else self.name_of(one) for one in table.inputs), table.values)
 
-    def of_states(self, group: typing.Sequence[str], shown: typing.Sequence[str], cone: Cone) -> Netlist:
-        """The netlist of a group of states, with words for some of them."""
-        net = Netlist(f"{self.net.name[:12]}_{len(self.found) + 1}", [*self.inputs(cone), *group],
-                      [*(f"{one}{AT}" for one in shown), *(one + NEXT for one in group)])
-        net.starts = {one: self.net.starts[one] for one in group if one in self.net.starts}
+    def add(self, cone: Cone, outputs: list[str], group: typing.Sequence[str] = ()) -> Netlist:
+        """One more netlist, of a cone, with the states of a group."""
+        net = Netlist(f"{self.net.name[:12]}_{len(self.found) + 1}", [*self.inputs(cone), *group], outputs)
         net.tables = {name: self.table(name, group) for name in cone.tables}
-        net.tables.update((f"{one}{AT}", Table(0, (one,), COPY)) for one in shown)
+        net.starts = {one: self.net.starts[one] for one in group if one in self.net.starts}
+        self.found.append(net)
         return net
 
     def flush(self) -> None:
@@ -147,9 +147,7 @@ class Splitter:
                 if self.fits(both) and not both.leaves & set(left):
                     names, cone = [*names, other], both
                     break
-            net = Netlist(f"{self.net.name[:12]}_{len(self.found) + 1}", self.inputs(cone), names)
-            net.tables = {name: self.table(name, ()) for name in cone.tables}
-            self.found.append(net)
+            self.add(cone, names)
             left = [name for name in left if name not in names]
 
 
