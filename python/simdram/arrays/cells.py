@@ -6,7 +6,7 @@ import typing
 import numpy
 
 from ..files import columns
-from .operations import BIT, WORD
+from .operations import BIT
 from .refusals import Refused
 
 WIDTHS = (1, 128)
@@ -92,11 +92,6 @@ def as_signed(numbers: numpy.ndarray, bits: int) -> numpy.ndarray:
     above = 8 * numbers.dtype.itemsize - bits
     kind = f"i{numbers.dtype.itemsize}"
     return (numbers << numpy.array(above, numbers.dtype)).view(kind) >> numpy.array(above, kind)
-
-
-def kind_of(numbers: numpy.ndarray, bits: int) -> str:
-    """Truth values of one bit are bits, and all else is words."""
-    return BIT if numbers.dtype == bool and bits == 1 else WORD
 
 
 class Field(typing.NamedTuple):

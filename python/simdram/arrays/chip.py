@@ -17,6 +17,7 @@ from .costing import Cost, total
 from .cutting import STATEMENTS, cut
 from .expressions import Constant, Held, Value, made_before
 from .layout import whole_of
+from .operations import BIT, WORD
 from .refusals import Refused
 from .running import HELP, Made, run
 from .scripting import Scripts
@@ -74,7 +75,8 @@ class Chip:
         width = cells.checked_width(cells.width_of(numbers) if bits is None else operator.index(bits))
         signed = signed and numbers.dtype != bool
         cells.check_range(numbers, width, signed)
-        kind = cells.kind_of(numbers, width)
+        # truth values of one bit are bits, and all else is words
+        kind = BIT if numbers.dtype == bool and width == 1 else WORD
         if not numbers.shape:
             return Array(self, (), Value(kind, width, Constant(int(numbers) % 2**width)), Made(), signed)
         name = self._placed(width, numbers.size)

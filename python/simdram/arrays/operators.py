@@ -33,7 +33,6 @@ def comparison(name: str) -> tuple[Operator, Operator]:
 
 
 def multiplied(first: typing.Any, second: typing.Any) -> typing.Any:
-    """The product of two matrices."""
     from .summing import matmul
     return matmul(first, second)
 
@@ -86,7 +85,6 @@ def result_of(name: str, *operands: typing.Any) -> typing.Any:
 
 
 def both(first: typing.Any, second: typing.Any) -> list[typing.Any]:
-    """Two operands as arrays."""
     return arrays_of(OPERATIONS["and"], (first, second))
 
 

@@ -63,7 +63,6 @@ class Scripts:
         return self.objects[id(value)]
 
     def make(self, name: str, width: int) -> None:
-        """The line that makes an object."""
         self.lines.append(f"bbop_trsp_init {name}, {self.count}, {width}")
 
     def _do(self, part: Part) -> None:

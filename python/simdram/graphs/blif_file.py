@@ -35,7 +35,6 @@ class Formula:
         self.tokens, self.pins, self.mask = ["", *reversed(words_of(text))], pins, mask
 
     def took(self, *tokens: str) -> bool:
-        """Takes the next token if it is one of these."""
         is_it = self.tokens[-1] in tokens
         if is_it:
             self.tokens.pop()

@@ -3,6 +3,7 @@
 A state is computed in one netlist with all that it is computed from at a position; others find what it holds there as a word.
 """
 
+import dataclasses
 import typing
 
 from ..launcher.faults import Fault
@@ -115,23 +116,18 @@ class Splitter:
         for one in group:
             self.cones[f"{one}{AT}"] = Cone(frozenset((f"{one}{AT}",)), frozenset())
 
-    def inputs(self, cone: Cone) -> list[str]:
-        """What an op of a cone reads: an op has a source, whether it reads it or not."""
-        return sorted(cone.leaves) or self.net.sources[:1]
-
     def name_of(self, signal: str) -> str:
         """A signal, or what a state that is done holds at a position."""
         return f"{signal}{AT}" if f"{signal}{AT}" in self.cones else signal
 
-    def table(self, name: str, group: typing.Collection[str]) -> Table:
-        """A table, with what states hold that are none of a group."""
-        table = self.net.tables[name]
-        return Table(table.line, tuple(one if one in group else self.name_of(one) for one in table.inputs), table.values)
-
     def add(self, cone: Cone, outputs: list[str], group: typing.Sequence[str] = ()) -> Netlist:
         """One more netlist, of a cone, with the states of a group."""
-        net = Netlist(f"{self.net.name[:12]}_{len(self.found) + 1}", [*self.inputs(cone), *group], outputs)
-        net.tables = {name: self.table(name, group) for name in cone.tables}
+        # an op has a source, whether it reads it or not
+        inputs = sorted(cone.leaves) or self.net.sources[:1]
+        net = Netlist(f"{self.net.name[:12]}_{len(self.found) + 1}", [*inputs, *group], outputs)
+        for name in cone.tables:
+            table = self.net.tables[name]
+            net.tables[name] = dataclasses.replace(table, inputs=tuple(one if one in group else self.name_of(one) for one in table.inputs))
         net.starts = {one: self.net.starts[one] for one in group if one in self.net.starts}
         self.found.append(net)
         return net

@@ -34,7 +34,6 @@ class Items:
         self.optional = self._optional()
 
     def rule(self, state: int) -> int:
-        """A state's next value."""
         return self.graph.states[state].next
 
     def _find(self) -> typing.Iterator[int]:

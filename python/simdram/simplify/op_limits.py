@@ -22,7 +22,6 @@ def block_fits(block: Block) -> bool:
 
 
 def fits(body: Body) -> bool:
-    """Whether a body keeps to the limits."""
     return len(body) <= STATEMENTS and all(isinstance(one, WordStatement) or block_fits(one) for one in body)
 
 

@@ -12,7 +12,6 @@ STAYS, EQUAL = "stays", "equal"
 
 
 def listed(widths: typing.Iterable[int]) -> str:
-    """Widths, with commas between them."""
     return ",".join(map(str, widths))
 
 

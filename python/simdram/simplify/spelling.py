@@ -45,7 +45,6 @@ class Spelling:
         return getattr(self, f"_{node.kind}")(lit, node)
 
     def _drawn(self, args: list[Expr]) -> list[Expr]:
-        """The arguments in the order that is drawn."""
         if self.random:
             self.random.shuffle(args)
         return args

@@ -31,11 +31,9 @@ class Timed:
     stopped: threading.Event = dataclasses.field(default_factory=threading.Event)
 
     def until_then(self, until: float) -> "Timed":
-        """The same up to another time."""
         return dataclasses.replace(self, until=until)
 
     def check_time(self) -> None:
-        """Raises if the time is over, or the work was stopped."""
         if self.stopped.is_set() or spent() >= self.until:
             raise TimeOver
 
