@@ -75,18 +75,15 @@ def status_of(words: list[str]) -> int:
     except Fault as fault:
         say(str(fault))
         return fault.status
-    except MemoryError:
-        say("out of memory")
-        return NO_MEMORY
-    except OSError as fault:
+    except (MemoryError, OSError) as fault:
         return status_after(fault)
     except KeyboardInterrupt:
         return INTERRUPTED
 
 
-def status_after(fault: OSError) -> int:
+def status_after(fault: MemoryError | OSError) -> int:
     """Tells a fault of the system, and returns the status: that of the program for memory, and for what cannot be printed."""
-    if fault.errno == errno.ENOMEM:
+    if isinstance(fault, MemoryError) or fault.errno == errno.ENOMEM:
         say("out of memory")
         return NO_MEMORY
     if fault.filename is None and fault.errno in UNPRINTED:

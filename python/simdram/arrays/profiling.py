@@ -3,7 +3,7 @@
 import dataclasses
 import typing
 
-from ..costs.profile import Row, table
+from ..costs.profile import Row, summed, table
 from ..costs.report import OK
 from .costing import Cost
 from .running import Made, computes
@@ -40,7 +40,7 @@ def profile(made: Made) -> ScriptProfile:
     statements: list[Row] = []
     for number, part in enumerate(parts, 1):
         own, where = counted(part), f", computation {number}" if len(parts) > 1 else ""
-        ops += [dataclasses.replace(row, what=row.what + where) for row in summed((op_of(row.what), row) for row in own)]
+        ops += [dataclasses.replace(row, what=name + where) for name, row in summed((op_of(row.what), row) for row in own).items()]
         statements += [dataclasses.replace(row, what=row.what + where) for row in by_statement(part, own)]
         instructions += own
     return ScriptProfile(made.whole().cost, tuple(ops), tuple(instructions), tuple(statements))
@@ -56,15 +56,6 @@ def counted(made: Made) -> list[Row]:
 def op_of(line: str) -> str:
     """The op of a bbop, or `fill`."""
     return line.split()[0].replace("bbop_", "", 1)
-
-
-def summed(pairs: typing.Iterable[tuple[str, Row]]) -> tuple[Row, ...]:
-    """The sums of rows of one name."""
-    found: dict[str, Row] = {}
-    for name, row in pairs:
-        before = found.get(name, Row(name, 0, 0))
-        found[name] = Row(name, before.aap + row.aap, before.ap + row.ap, before.times + row.times)
-    return tuple(found.values())
 
 
 def by_statement(made: Made, instructions: typing.Sequence[Row]) -> tuple[Row, ...]:

@@ -149,14 +149,9 @@ def if_else(b, x, y, condition):
     return None
 
 
-def is_least(value: Value) -> bool:
-    """Whether it is the constant of the least signed number."""
-    return number_of(value) == 1 << value.bits - 1
-
-
-def is_greatest(value: Value) -> bool:
-    """Whether it is the constant of the greatest signed number."""
-    return number_of(value) == (1 << value.bits - 1) - 1
+def are_ends(least: Value, greatest: Value) -> bool:
+    """Whether the one is the constant of the least signed number, or the other that of the greatest."""
+    return number_of(least) == 1 << least.bits - 1 or number_of(greatest) == (1 << greatest.bits - 1) - 1
 
 
 def same(x: Value, y: Value, *_: Value) -> bool:
@@ -194,8 +189,8 @@ RULES: dict[str, tuple[tuple[Holds, Gives], ...]] = {
     "gt": ((same, FALSE), (Y_ONES, FALSE), (X_0, FALSE), (Y_0, does("or_red", 0)),
            (X_ONES, lambda b, x, y: b.do("not", b.do("and_red", y)))),
     "ge": ((same, TRUE), (X_ONES, TRUE), (Y_0, TRUE), (X_0, lambda b, x, y: b.do("not", b.do("or_red", y))), (Y_ONES, does("and_red", 0))),
-    "signed_gt": ((same, FALSE), (lambda x, y: is_least(x) or is_greatest(y), FALSE), (X_0, does("sign", 1))),
-    "signed_ge": ((same, TRUE), (lambda x, y: is_least(y) or is_greatest(x), TRUE), (Y_0, lambda b, x, y: b.do("not", b.do("sign", x)))),
+    "signed_gt": ((same, FALSE), (are_ends, FALSE), (X_0, does("sign", 1))),
+    "signed_ge": ((same, TRUE), (lambda x, y: are_ends(y, x), TRUE), (Y_0, lambda b, x, y: b.do("not", b.do("sign", x)))),
     "if_else": ((same, FIRST), (known(2), lambda b, x, y, condition: x if number_of(condition) else y),
                 (lambda x, y, condition: under("not", condition) is not None,
                  lambda b, x, y, condition: b.do("if_else", y, x, under("not", condition))), (always, if_else)),

@@ -52,7 +52,6 @@ class Script:
 
     @property
     def compiled(self) -> list[str]:
-        """The texts that are compiled."""
         return [text for text, entry in self.ops.items() if entry is None]
 
 

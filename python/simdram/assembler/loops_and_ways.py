@@ -61,9 +61,6 @@ class Outline(typing.NamedTuple):
     loops: tuple[Loop, ...]
     ways: tuple[Way, ...]
 
-    def around(self, first: int, past: int) -> list[Loop]:
-        return around(self.loops, first, past)
-
     def apart(self, at: int, place: int) -> str:
         """The innermost loop or way that is around an instruction and not around another, in words."""
         found = [one for one in (*self.loops, *self.ways) if one.first <= at <= one.last and not one.first <= place <= one.last]

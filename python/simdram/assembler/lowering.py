@@ -150,11 +150,7 @@ class Lowering:
 
     def keep(self, form: Form, token: Token) -> int:
         """A register that holds a subscript that is no loop's, set now where none does."""
-        if form in self.kept:
-            self.kept[form] = self.kept.pop(form)
-            return self.kept[form]
-        register = self.take(token, f"holds {form}")
-        self.load(register, form)
+        register = self.kept.pop(form) if form in self.kept else self.loaded(form, form, token)
         self.kept[form] = register
         return register
 
@@ -203,13 +199,15 @@ class Lowering:
             raise Breach(self.token, "number", f"no register can be set to {form}", "registers hold 0 to 1023, n, and what "
                             "loops count in them")
 
-    def hold(self, form: Form, value: Form, token: Token) -> int:
-        """A register that holds a form from now on, which begins with a value."""
+    def loaded(self, form: Form, value: Form, token: Token) -> int:
+        """A free register for a form, which begins with a value."""
         register = self.take(token, f"holds {form}")
-        self.token = token
         self.load(register, value)
-        self.held[form] = register
         return register
+
+    def hold(self, form: Form, value: Form, token: Token) -> None:
+        self.token = token
+        self.held[form] = self.loaded(form, value, token)
 
     def loop(self, loop: For) -> None:
         """A loop: its count in a register, and a register for each form that its body needs. What goes up is counted at the end

@@ -15,7 +15,6 @@ from .walks import Stuck, walk
 WIDTHS = (*range(1, 13), 31, 32, 64)
 SOURCES = "abcd"
 RESULTS = "yz"
-Subscript = typing.Callable[[int], str]
 
 
 def register_text(register: int) -> str:
@@ -23,7 +22,7 @@ def register_text(register: int) -> str:
     return "0" if register == REGISTERS else f"r{register}"
 
 
-def row_text(row: Row, entry: Entry, subscript: Subscript = register_text) -> str:
+def row_text(row: Row, entry: Entry, subscript: typing.Callable[[int], str] = register_text) -> str:
     """A row by its name; `subscript` says what a register of an index means."""
     if row.space == B_ADDRESS:
         return address_text(row.which)

@@ -51,7 +51,10 @@ class Axis(typing.NamedTuple):
         return max(0.0, math.log(value / self.first) / reach) if value > 0 and reach > 0 else 0
 
     def marks(self, most: int) -> list[float]:
-        return powers_of_ten(self.first, self.last) or [self.first] if self.is_log else stepped(self.last, most)
+        if not self.is_log:
+            return stepped(self.last, most)
+        powers = range(math.ceil(math.log10(self.first) - 1e-9), math.floor(math.log10(self.last) + 1e-9) + 1)
+        return [10.0 ** power for power in powers] or [self.first]
 
 
 @dataclasses.dataclass(frozen=True)
@@ -79,11 +82,6 @@ class Picture:
 
     def place(self, x: float, y: float) -> tuple[float, float]:
         return LEFT + WIDE * self.x.along(x), ABOVE + HIGH - HIGH * self.y.along(y)
-
-
-def powers_of_ten(first: float, last: float) -> list[float]:
-    powers = range(math.ceil(math.log10(first) - 1e-9), math.floor(math.log10(last) + 1e-9) + 1)
-    return [10.0 ** power for power in powers]
 
 
 def number(value: float) -> str:

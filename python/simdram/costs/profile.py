@@ -80,12 +80,18 @@ def row_of(part: Part, times: list[int]) -> Row:
     return Row(part.title(), aap, ap, times[part.first])
 
 
+def summed(pairs: typing.Iterable[tuple[typing.Any, Row]]) -> dict[typing.Any, Row]:
+    """The sums of the rows under each key."""
+    found: dict[typing.Any, Row] = {}
+    for key, row in pairs:
+        before = found.get(key, Row(row.what, 0, 0))
+        found[key] = Row(row.what, before.aap + row.aap, before.ap + row.ap, before.times + row.times)
+    return found
+
+
 def by_statement(found: list[Part], rows: list[Row]) -> tuple[Row, ...]:
     """The rows of the statements, in the order of the text; a loop of several is one row."""
-    sums: dict[tuple[int, ...], Row] = {}
-    for part, row in zip(found, rows):
-        before = sums.get(part.statements, Row(part.what, 0, 0))
-        sums[part.statements] = Row(part.what, before.aap + row.aap, before.ap + row.ap)
+    sums = summed((part.statements, Row(part.what, row.aap, row.ap)) for part, row in zip(found, rows))
     return tuple(sums[key] for key in sorted(sums))
 
 

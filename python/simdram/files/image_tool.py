@@ -54,13 +54,9 @@ def add(image: Image, word: str) -> None:
     if not (match := OBJECT.fullmatch(word)):
         raise WordsFault(f"{word} is no NAME:WIDTH=V1,V2,.. and no NAME:WIDTH/COUNT; numbers are in decimal digits")
     name, width, values, count = match.groups()
-    if values is None:
-        image.add(name, int(width), int(count))
-        image.put(name, [0] * int(count))
-        return
-    given = [int(value) for value in values.split(",")]
-    image.add(name, int(width), len(given))
-    image.put(name, given)
+    size = int(count) if values is None else values.count(",") + 1
+    image.add(name, int(width), size)
+    image.put(name, [0] * size if values is None else list(map(int, values.split(","))))
 
 
 def show(image: Image) -> typing.Iterator[str]:

@@ -122,20 +122,17 @@ class Kept(typing.NamedTuple):
 
 def write(path: str, data: bytes, kind: str, settings: Settings) -> None:
     """Writes a tool's file by the rule above."""
-    place, copies = place_of(path), []
+    place = place_of(path)
     told_of(place, settings)
-    if is_full(place) and not settings.force:
-        if os.path.getsize(place) == len(data) and load(place) == data:
-            return
-        check(path, kind, settings)
-        if kind == "ops":
-            raise Fault(f"{path} holds a text, which may have been typed; nothing was written, and --force overwrites it")
-        copies.append(Kept(place, kind, kept(place)))
-    try:
+    with contextlib.ExitStack() as after:
+        if is_full(place) and not settings.force:
+            if os.path.getsize(place) == len(data) and load(place) == data:
+                return
+            check(path, kind, settings)
+            if kind == "ops":
+                raise Fault(f"{path} holds a text, which may have been typed; nothing was written, and --force overwrites it")
+            after.callback(Kept(place, kind, kept(place)).settle, settings)
         store(path, data, True)
-    finally:
-        for one in copies:
-            one.settle(settings)
 
 
 class Written:

@@ -21,27 +21,17 @@ def processors() -> int:
     return len(os.sched_getaffinity(0)) if hasattr(os, "sched_getaffinity") else os.cpu_count() or 1
 
 
-class Bar:
-    """A progress bar on standard error, where that is a terminal."""
-
-    def __init__(self, what: str, items: int) -> None:
-        self.what, self.items, self.done = what, items, 0
-        self.began = time.monotonic()
-
-    def step(self) -> None:
-        """One more item is done."""
-        self.done += 1
-        seconds = time.monotonic() - self.began
-        if self.what and seconds > SHOWN_AFTER:
-            full, left = BAR * self.done // self.items, round(seconds * (self.items - self.done) / self.done)
-            show(f"simdram: {self.what} [{'#' * full}{'.' * (BAR - full)}] {self.done} of {self.items}"
-                 f"{f', about {left} s left' if left else ''}")
+def show_bar(what: str, seconds: float, done: int, items: int) -> None:
+    """Shows how many items were done in so many seconds, on standard error, where that is a terminal."""
+    if what and seconds > SHOWN_AFTER:
+        full, left = BAR * done // items, round(seconds * (items - done) / done)
+        show(f"simdram: {what} [{'#' * full}{'.' * (BAR - full)}] {done} of {items}{f', about {left} s left' if left else ''}")
 
 
 def in_parallel(work: typing.Callable[[Item], Result], items: typing.Sequence[Item], what: str = "",
                 stop: typing.Callable[[], None] = lambda: None) -> list[Result]:
     """The results of all items, in their order. The first fault, or Ctrl-C, stops what has not ended yet; `stop` is called then."""
-    bar, workers = Bar(what, len(items)), processors()
+    began, workers = time.monotonic(), processors()
     left, found = iter(enumerate(items)), {}
     pool = concurrent.futures.ThreadPoolExecutor(workers)
     try:
@@ -49,7 +39,7 @@ def in_parallel(work: typing.Callable[[Item], Result], items: typing.Sequence[It
         while waiting:
             for future in concurrent.futures.wait(waiting, return_when=concurrent.futures.FIRST_COMPLETED).done:
                 found[waiting.pop(future)] = future.result()
-                bar.step()
+                show_bar(what, time.monotonic() - began, len(found), len(items))
                 waiting.update((pool.submit(work, item), k) for k, item in itertools.islice(left, 1))
     except BaseException:
         stop()

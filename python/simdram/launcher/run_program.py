@@ -92,9 +92,9 @@ class Ended(typing.NamedTuple):
     err: str
 
     def check(self, what: str, right: typing.Container[int] = (0,)) -> None:
-        """Raises what it said where it did not end with a right status."""
+        """Raises what it said last where it did not end with a right status."""
         if self.status not in right:
-            raise Fault(f"{what} ended with status {self.status}: {self.out.strip() or self.err.strip()}")
+            raise Fault(f"{what} ended with status {self.status}: {(self.out.splitlines() or [self.err.strip()])[-1]}")
 
 
 # the calls of the program that have not ended, of all threads

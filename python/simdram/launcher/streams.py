@@ -8,24 +8,18 @@ import sys
 INSTEAD = ((0, os.devnull, os.O_RDONLY), (1, "/dev/full", os.O_WRONLY), (2, os.devnull, os.O_WRONLY))
 
 
-def is_open(number: int) -> bool:
-    try:
-        os.fstat(number)
-    except OSError:
-        return False
-    return True
-
-
 def open_closed() -> None:
     """Opens each standard stream that is closed, so that no file takes its number."""
     for number, path, flags in INSTEAD:
-        if not is_open(number):
-            with contextlib.suppress(OSError):
-                opened = os.open(path if os.path.exists(path) else os.devnull, flags)
-                os.set_inheritable(opened, True)
-                if opened != number:
-                    os.dup2(opened, number)
-                    os.close(opened)
+        with contextlib.suppress(OSError):
+            os.fstat(number)
+            continue
+        with contextlib.suppress(OSError):
+            opened = os.open(path if os.path.exists(path) else os.devnull, flags)
+            os.set_inheritable(opened, True)
+            if opened != number:
+                os.dup2(opened, number)
+                os.close(opened)
     for number, name in ((1, "stdout"), (2, "stderr")):
         if getattr(sys, name) is None:
             setattr(sys, name, open(number, "w", encoding="utf-8", errors="backslashreplace"))

@@ -32,27 +32,24 @@ class Parser(argparse.ArgumentParser):
         (file or sys.stderr).write(message)
 
 
-class Option(typing.NamedTuple):
-    """A word of a tool, or an option where it begins with `-`, and what argparse takes for it."""
-
-    name: str
-    more: dict[str, typing.Any]
+# a word of a tool, or an option where it begins with `-`, and what argparse takes for it
+Option = tuple[str, dict[str, typing.Any]]
 
 
 def option(name: str, metavar: str | None = None, help: str | None = None, **more: typing.Any) -> Option:
-    return Option(name, {"metavar": metavar, "help": help, **more})
+    return name, {"metavar": metavar, "help": help, **more}
 
 
 def flag(name: str, help: str) -> Option:
     """An option that takes no word."""
-    return Option(name, {"help": help, "action": "store_true"})
+    return name, {"help": help, "action": "store_true"}
 
 
 def parser_of(module: str, options: typing.Iterable[Option]) -> Parser:
     command = next(command for command in TOOLS if module.endswith(f".{command.module}"))
     made = Parser(prog=f"simdram {command.name}", description=about(command.module), formatter_class=argparse.RawDescriptionHelpFormatter)
-    for one in options:
-        made.add_argument(one.name, **one.more)
+    for name, more in options:
+        made.add_argument(name, **more)
     return made
 
 
@@ -66,7 +63,7 @@ def tool(*words: str | Option) -> typing.Callable[[Main], typing.Callable[[list[
         def called(given: list[str], settings: Settings) -> int:
             parser = parser_of(main.__module__, options)
             # options may stand among several words of one name
-            has_several = any(one.more.get("nargs") in ("*", "+") for one in options)
+            has_several = any(more.get("nargs") in ("*", "+") for _, more in options)
             parse = parser.parse_intermixed_args if has_several else parser.parse_args
             return main(parse(given, Asked(settings=settings))) or 0
         return called

@@ -42,10 +42,6 @@ class Found(typing.NamedTuple):
     entry: Entry
     line: str
 
-    @property
-    def is_shorter(self) -> bool:
-        return SHORTER.fullmatch(self.line) is not None
-
 
 class Refused(Fault):
     """The program refused a file, or ended otherwise without a result."""
@@ -89,8 +85,9 @@ class Search:
 
     def report(self) -> str:
         """The lines of all entries, and the last line, as the program writes them."""
-        last = f"optimised {sum(one.is_shorter for one in self.found)} of {len(self.found)} at {self.asked.width}"
-        return "".join(f"{line}\n" for line in [*(one.line for one in self.found), last])
+        lines = [one.line for one in self.found]
+        last = f"optimised {sum(map(bool, map(SHORTER.fullmatch, lines)))} of {len(lines)} at {self.asked.width}"
+        return "".join(f"{line}\n" for line in [*lines, last])
 
 
 def is_made_of(new: Entry, entry: Entry) -> bool:

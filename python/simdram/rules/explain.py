@@ -67,15 +67,6 @@ def check_beside(path: str, kind: str, beside: dict, width: int) -> None:
         raise Fault(f"{path} is {KINDS[kind]}: name a program file and a width, 1 to 128, after an operation text to see the verdicts of verify")
 
 
-def of_ops(path: str, data: bytes, beside: dict, width: int, settings: Settings) -> list[Answer]:
-    """What the verdicts of `verify` mean that are not `right`."""
-    prog, file = beside["program"]
-    program = Program.read(file, prog)
-    ended = run_program.run(["verify", path, prog, width], settings=settings)
-    ended.check("verify", VERIFIED)
-    return answers_on(verdicts_of(ended.out), shapes_of(path, data), program, prog, width)
-
-
 def found_in(path: str, beside: dict, width: int, settings: Settings) -> list[Answer]:
     """What is wrong with a file, beside others; a width is 0 where none is named."""
     kind, data = loaded(path)
@@ -85,13 +76,16 @@ def found_in(path: str, beside: dict, width: int, settings: Settings) -> list[An
     table = Table.read(beside["image"][1], beside["image"][0]) if "image" in beside else None
     if kind == "flips":
         return answers.flips_fault(path, data, beside["script"], table)
-    if kind == "script" and beside:
-        prog, file = beside["program"]
-        entries = {entry.name: entry for entry in Program.read(file, prog).entries}
+    if "program" not in beside:
+        return answers.query_refusals(path, data, table) if table else []
+    prog, file = beside["program"]
+    program = Program.read(file, prog)
+    if kind == "script":
+        entries = {entry.name: entry for entry in program.entries}
         return answers.script_refusals(path, data, table, entries, answers.stuck_by_cost(prog, settings), prog=prog)
-    if kind == "ops" and beside:
-        return of_ops(path, data, beside, width, settings)
-    return answers.query_refusals(path, data, table) if table else []
+    ended = run_program.run(["verify", path, prog, width], settings=settings)
+    ended.check("verify", VERIFIED)
+    return answers_on(verdicts_of(ended.out), shapes_of(path, data), program, prog, width)
 
 
 @tool("FILE", option("beside", "BESIDE", nargs="*", default=[]))

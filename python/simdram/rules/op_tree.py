@@ -22,9 +22,16 @@ class Expr(typing.NamedTuple):
     name: str = ""
 
     def __str__(self) -> str:
-        if self.gate == "read":
-            return self.name
-        return f"{self.gate}({', '.join(map(str, self.args))})" if self.args else self.gate
+        """Its text; one of a netlist may nest deeper than calls do, so that none is made for what is inside."""
+        found, left = "", [self]
+        while left:
+            one = left.pop()
+            if isinstance(one, str) or not one.args:
+                found += one if isinstance(one, str) else one.name or one.gate
+            else:
+                found += f"{one.gate}("
+                left += [")", *(part for arg in reversed(one.args) for part in (arg, ", "))][:-1]
+        return found
 
     def names(self) -> typing.Iterator[str]:
         """The names that it reads, in order."""

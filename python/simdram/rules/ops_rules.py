@@ -27,7 +27,6 @@ class Reader:
     def __init__(self, data: bytes) -> None:
         self.tokens = tokens(data)
         self.at = 0
-        self.ops: list[str] = []
         self.shapes: list[OpShape] = []
 
     @property
@@ -91,17 +90,16 @@ class Reader:
     def read(self) -> None:
         while self.next().kind != END:
             token = self.take("the word `op` of one more op", "op")
-            self.limit(token, len(self.ops), OPS, "a text has at most {} ops")
+            self.limit(token, len(self.shapes), OPS, "a text has at most {} ops")
             self.op(token)
 
     def op(self, first: Token) -> None:
         token = self.take("the op's name", name=True)
-        name = self.good_name(token, "the op")
+        name, earlier = self.good_name(token, "the op"), [one.name for one in self.shapes]
         if name == "trsp_init":
             raise Breach(token, "bad_name", "an op cannot be named trsp_init: bbop_trsp_init makes an object")
-        if name in self.ops:
-            raise Breach(token, "twice", f"an op {name} is already defined", f"defined ops: {listed(self.ops)}")
-        self.ops.append(name)
+        if name in earlier:
+            raise Breach(token, "twice", f"an op {name} is already defined", f"defined ops: {listed(earlier)}")
         self.shapes.append(OpShape(name, first))
         self.take("`(`", "(")
         self.sources()
@@ -121,10 +119,9 @@ class Reader:
         more = ","
         while more == ",":
             token = self.take("a parameter's name", name=True)
-            name = self.good_name(token, "the parameter", self.shape.stands.__contains__)
+            name = self.new_name(token, "the parameter")
             self.limit(token, len(self.shape.defined), SOURCES, "an op has at most {} parameters")
             self.shape.defined[name] = self.kind()
-            self.shape.stands.append(name)
             more = self.take("`,` and one more parameter, or `)`", ",", ")").text
 
     def result(self) -> None:

@@ -1,6 +1,7 @@
 """What statements cost: each is measured once, in an op of its own, many to a call of the program."""
 
 import copy
+import dataclasses
 import typing
 
 from ..costs.costs import cost_of
@@ -46,7 +47,7 @@ class Measured:
     def until_then(self, until: float) -> "Measured":
         """The same, with what is kept, up to another time, for another search."""
         other = copy.copy(self)
-        other.timed, other.asked = self.timed.until_then(until), set()
+        other.timed, other.asked = dataclasses.replace(self.timed, until=until), set()
         return other
 
     def compiled(self, text: str, also: typing.Iterable[int] = ()) -> Compiled | None:

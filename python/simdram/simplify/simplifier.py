@@ -77,7 +77,7 @@ class Simplifier:
             return Outcome(found)
         new = dataclasses.replace(found.op, body=found.body)
         widths = sorted({*self.options.compared, *self.options.widths})
-        equality = Comparer(self.timed.until_then(until)).equal(found.op, new, widths, found.program)
+        equality = Comparer(dataclasses.replace(self.timed, until=until)).equal(found.op, new, widths, found.program)
         return Outcome(found, equality, self.options.is_unvalidated)
 
     def _before(self, measured: Measured, data: bytes) -> list[Costs]:

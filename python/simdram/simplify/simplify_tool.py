@@ -36,7 +36,7 @@ FAULTY = 1
 WIDTHS = "4,8,16,32"
 
 
-def check_words(asked: Asked, settings: Settings) -> None:
+def check_words(asked: Asked) -> None:
     """Refuses times that are none, and a NEW that is OPS or another kind of file."""
     if not 0 < asked.seconds <= 86400:
         raise Fault("--seconds is above 0, and at most 86400")
@@ -45,18 +45,18 @@ def check_words(asked: Asked, settings: Settings) -> None:
     if asked.new and os.path.exists(asked.new):
         if os.path.exists(asked.ops) and os.path.samefile(asked.ops, asked.new):
             raise Fault(f"{asked.new} is OPS itself; NEW is another file")
-        check(asked.new, "ops", settings)
+        check(asked.new, "ops", asked.settings)
     if asked.width:
         if wrong := wrong_number("one width", asked.width[0]):
             raise Fault(f"N of --width is {wrong}")
-        check(asked.width[1], "program", settings)
+        check(asked.width[1], "program", asked.settings)
 
 
-def write_program(program: str, asked: Asked, written: bytes, simpler: bytes, settings: Settings) -> None:
+def write_program(program: str, asked: Asked, written: bytes, simpler: bytes) -> None:
     """Writes the program of the fewest commands at one width, and says what it takes."""
     n, prog = int(asked.width[0]), asked.width[1]
     found = fewest(program, written, simpler, n)
-    write(prog, Program([one.entry for one in found]).file(), "program", settings)
+    write(prog, Program([one.entry for one in found]).file(), "program", asked.settings)
     lines = [*(one.line() for one in found), f"optimised {sum(one.after < one.before for one in found)} of {len(found)} at {n}"]
     print("\n".join(lines), file=sys.stdout if asked.new else sys.stderr)
 
@@ -78,7 +78,7 @@ def fault_of(path: str, data: bytes, settings: Settings) -> int:
       flag("--rows", "take no text of more scratch rows"),
       flag("--unvalidated", "take texts that are not known to be equal, with a comment"))
 def main(asked: Asked) -> int:
-    check_words(asked, asked.settings)
+    check_words(asked)
     widths = asked.widths or (asked.width[0] if asked.width else WIDTHS)
     options = Options(tuple(widths_of(widths)), asked.seconds, asked.rows, asked.unvalidated)
     simplifier = Simplifier(run_program.program(asked.settings), options)
@@ -97,5 +97,5 @@ def main(asked: Asked) -> int:
         if one.kind == WRONG:
             print(f"as it was:\n{before.decode('utf-8', 'replace')}\nas it was simplified:\n{one.simpler.text}", end="", file=sys.stderr)
     if asked.width:
-        write_program(simplifier.timed.program, asked, data, text, asked.settings)
+        write_program(simplifier.timed.program, asked, data, text)
     return FAULTY if any(one.kind == WRONG for one in outcomes) else 0

@@ -30,9 +30,6 @@ class Timed:
     until: float = float("inf")
     stopped: threading.Event = dataclasses.field(default_factory=threading.Event)
 
-    def until_then(self, until: float) -> "Timed":
-        return dataclasses.replace(self, until=until)
-
     def check_time(self) -> None:
         if self.stopped.is_set() or spent() >= self.until:
             raise TimeOver

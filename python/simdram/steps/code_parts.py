@@ -2,12 +2,12 @@
 
 import dataclasses
 
-from ..assembler.loops_and_ways import Outline, outline
+from ..assembler.loops_and_ways import Outline, around, outline
 from ..files.program import AAP, ADDI, INDEXED, REGISTERS, SUBI, Instruction
 from ..rules.op_tree import OpShape
 from ..rules.tokens import line_of
 from .positions import UNKNOWN, Held, counted_from, held_at, pieces
-from .row_names import ZERO_INDEX, RowNames
+from .row_names import RowNames
 
 WIDEST = 100
 LONGEST_TITLE = 160
@@ -42,6 +42,11 @@ class Part:
         return text if len(text) <= LONGEST_TITLE else text[:LONGEST_TITLE - 2] + ".."
 
 
+def subscripts(code) -> set[int]:
+    """The registers that are subscripts of rows."""
+    return {row.index for one in code for row in one.rows if row.space in INDEXED and row.index < REGISTERS}
+
+
 def direction(code, used: set[int]) -> list[str]:
     """Whether a loop goes up or down: what it adds to the registers that are subscripts in it."""
     kinds = {one.kind for one in code if one.kind in (ADDI, SUBI) and one.register in used}
@@ -49,17 +54,16 @@ def direction(code, used: set[int]) -> list[str]:
 
 
 def part_at(code, found: Outline, first: int, past: int) -> Part:
-    around, said = found.around(first, past), found.said(first, past)
-    if not around:
+    loops, said = around(found.loops, first, past), found.said(first, past)
+    if not loops:
         return Part(first, code[first:past], ", ".join(said) or "once", False)
-    inner = around[-1]
+    inner = loops[-1]
     if not inner.is_last(first):
-        used = {row.index for one in code[first:past] for row in one.rows if row.space in INDEXED and row.index < ZERO_INDEX}
-        said += direction(code[inner.first:inner.last + 1], used)
+        said += direction(code[inner.first:inner.last + 1], subscripts(code[first:past]))
     has_last = any(first == to for _, to in inner.ends)
     ends_it = not any(one.rows for one in code[past:inner.last])
     again = len(inner.turns) == 1 and ends_it and (has_last or inner.first == first)
-    return Part(first, code[first:past], ", ".join(said), again, has_last, loops=tuple((one.first, one.last) for one in around))
+    return Part(first, code[first:past], ", ".join(said), again, has_last, loops=tuple((one.first, one.last) for one in loops))
 
 
 def parts(code) -> list[Part]:
@@ -68,8 +72,7 @@ def parts(code) -> list[Part]:
     held, made = held_at(code), []
     for first, past in pieces(code):
         if any(one.rows for one in code[first:past]):
-            used = {row.index for one in code[first:past] for row in one.rows if row.space in INDEXED and row.index < REGISTERS}
-            start = counted_from(held.get(first, UNKNOWN), sorted(used))
+            start = counted_from(held.get(first, UNKNOWN), sorted(subscripts(code[first:past])))
             made.append(dataclasses.replace(part_at(code, found, first, past), held=start))
     return made
 

@@ -8,7 +8,6 @@ from ..rules.op_tree import OpShape, StatementShape
 from ..rules.word_ops import gate_value
 from .cell_values import ALL, drawn
 
-ZERO_INDEX = 8
 PLAIN = ("B{}", "C{}", "", "", "t{}", "w{}", "p{}")
 
 

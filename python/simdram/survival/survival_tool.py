@@ -55,9 +55,7 @@ class Job:
         with folder_of(flips=flips.encode()) as folder:
             path, prog, out = (f"{folder}/{name}" for name in ("flips", "prog", "out"))
             ended = run_program.run(["guard", self.ops, prog, self.script, self.image, path, out], path=self.program)
-            if ended.status:
-                said = (ended.out.splitlines() or [ended.err.strip()])[-1]
-                raise Fault(f"guard ended with status {ended.status}: {said}")
+            ended.check("guard")
             image = Image.read(load(out), out)
             # the votes at the end make the three copies of an object equal, so that the first is enough
             objects = tuple((one.name, image.cells(one.name)[0]) for one in image.objects if one.name.startswith("x"))
