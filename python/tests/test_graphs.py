@@ -258,6 +258,7 @@ class Netlists(Folder):
             (".inputs a\n.outputs y\n.names g y\n1 1\n.names y g\n1 1\n", "reads itself through other tables"),
             (".inputs c d e f g h\n.outputs c_next\n.names d e c n\n11- 1\n-11 1\n.names n f g m\n110 1\n.names m h c_next\n11 1\n",
              "the state c cannot be split: with 5 words at a position, where an op takes 4"),
+            (".inputs n0\n.outputs n3000\n" + "".join(f".names n{k} n{k + 1}\n0 1\n" for k in range(3000)), "too_many: gates nest at most 32 deep"),
         ):
             ended = self.block(text + end)
             self.assertEqual((ended.returncode, len(ended.stderr.splitlines()), ended.stdout), (2, 1, ""), (text, ended.stderr))
