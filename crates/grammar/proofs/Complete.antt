@@ -1,6 +1,6 @@
 -- The grammar allows tokens exactly where one of its texts begins with them.
-use Rattle.std.proofs.Common.{◌≡◌, Bool, true, false, List, [], ◌∷◌, ◌++◌, Option, Some, None}
-use Rattle.std.proofs.Common.{option_and_then, refl, sym, ap, ◌∙◌, IsSome}
+use Rattle.std.proofs.Common.{◌≡◌, Bool, false, List, [], ◌∷◌, ◌++◌, Option, Some, None}
+use Rattle.std.proofs.Common.{option_and_then, refl, ap, ◌∙◌, IsSome}
 use Rattle.grammar.specs.Machine.{Language, ends, opens_or, allowed}
 use Rattle.grammar.specs.Laws.{IsViable, IsAccepted, IsTheGrammar}
 use Rattle.grammar.proofs.Walks.{some_same}

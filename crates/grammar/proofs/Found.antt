@@ -1,6 +1,6 @@
 -- The first breach is another rule's, or what the grammar finds.
 use Rattle.std.proofs.Common.{◌≡◌, Bool, true, false, List, [], ◌∷◌, ◌++◌, Option, Some, None}
-use Rattle.std.proofs.Common.{Result, Ok, Err, option_and_then, refl, sym, ap, ◌∙◌, subst}
+use Rattle.std.proofs.Common.{Ok, Err, option_and_then, refl, sym, ap, ◌∙◌, subst}
 use Rattle.std.proofs.Common.{IsSome, ◌⊎◌, inl, inr}
 use Rattle.std.specs.Prelude.{if◌then◌else◌}
 use Rattle.std.proofs.lemmas.List.{map-append}

@@ -9,7 +9,7 @@ use Rattle.text_lex.specs.Lexical.{Item, Lexeme, Whole, Bad}
 use Rattle.grammar.specs.declared.Breach.{Breach}
 use Rattle.grammar.specs.Machine.{Language, at_token, at_byte, at_end, opens_next, with_rules, step}
 use Rattle.grammar.specs.Machine.{ends, after, breach_of, opens_or, allowed}
-use Rattle.grammar.specs.Laws.{whole, all_seen, FirstDecides}
+use Rattle.grammar.specs.Laws.{whole, all_seen}
 
 -- what a step comes to
 pub data StepIs {W U S K : Type 0} (l : Language W U S K) (w : W) (s : S) (u : Lexeme) (o : Bool)
@@ -191,6 +191,13 @@ no_place {W} {U} {S} {K} l (w ∷ ws) b place h e = by (l.may_end w) h where
   by true h = cc
   by false h =
       let f : None ≡ Some place = ap place_in (some_same (at_end l.syntax) b h) ∙ e in cc
+
+-- A fault at a token is that of each text that goes on from these tokens, and not by an opening
+-- one: the first one decides.
+abbrev pub FirstDecides : {W U S K : Type 0} → Language W U S K → S → Type 0
+FirstDecides {K = K} l s = (items more : List Item) (b : Breach K) (place : ℕ)
+    → opens_next l more ≡ false → breach_of l (l.first ∷ []) s items ≡ Some b
+    → b.at ≡ Some place → breach_of l (l.first ∷ []) s (items ++ more) ≡ Some b
 
 pub first_decides : {W U S K : Type 0} (l : Language W U S K) (s : S) → FirstDecides l s
 first_decides {W} {U} {S} {K} l s items more b place shut h e =

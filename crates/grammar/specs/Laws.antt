@@ -1,11 +1,10 @@
 -- What the first fault of a text says, where the texts of the grammar are given in another way.
-use Rattle.std.specs.Prelude.{◌≡◌, ◌↔◌, ◌⊎◌, ℕ, false, List, [], ◌∷◌, ◌++◌, map, Option, Some}
+use Rattle.std.specs.Prelude.{◌≡◌, ◌↔◌, ◌⊎◌, false, List, [], ◌∷◌, ◌++◌, map, Option, Some}
 use Rattle.std.specs.Prelude.{None, IsSome}
 use Rattle.text_lex.specs.declared.token.LexFault.{LexFault}
 use Rattle.text_lex.specs.Lexical.{Item, Lexeme, Whole, Bad}
 use Rattle.grammar.specs.declared.Breach.{Breach}
-use Rattle.grammar.specs.Machine.{Language, at_token, at_byte, at_end, opens_next, ends, breach_of}
-use Rattle.grammar.specs.Machine.{allowed}
+use Rattle.grammar.specs.Machine.{Language, at_token, at_byte, at_end, ends, breach_of, allowed}
 
 -- some text begins with these tokens
 abbrev pub IsViable : {U : Type 0} → (List U → Type 0) → List U → Type 0
@@ -68,10 +67,3 @@ pub record SyntaxIsTheGrammars {W U S K : Type 0} (l : Language W U S K)
       ⊎ GrammarFinds l IsText items (breach_of l (l.first ∷ []) s items)
   pub one : (a b : Option (Breach K)) → GrammarFinds l IsText items a
       → GrammarFinds l IsText items b → a ≡ b
-
--- A fault at a token is that of each text that goes on from these tokens, and not by an opening
--- one: the first one decides.
-abbrev pub FirstDecides : {W U S K : Type 0} → Language W U S K → S → Type 0
-FirstDecides {K = K} l s = (items more : List Item) (b : Breach K) (place : ℕ)
-    → opens_next l more ≡ false → breach_of l (l.first ∷ []) s items ≡ Some b
-    → b.at ≡ Some place → breach_of l (l.first ∷ []) s (items ++ more) ≡ Some b

@@ -3,8 +3,9 @@ use Rattle.std.proofs.Common.{◌≡◌, true, List, [], ◌∷◌, map, None, R
 use Rattle.std.specs.Result.{IsErrAnd}
 use Rattle.std.proofs.lemmas.Result.{err_from_is_err_and}
 use Rattle.text_lex.specs.Lexical.{Item}
+use Rattle.grammar.specs.Machine as machine
 use Rattle.op_text.specs.declared.tree.Op.{Op}
-use Rattle.op_text.specs.declared.grammar.Wanted.TheVariants as w
+use Rattle.op_text.specs.declared.wanted.Wanted.TheVariants as w
 use Rattle.op_text.specs.Items.{texts}
 use Rattle.op_text.specs.Language.{operation}
 use Rattle.op_text.specs.Rules.{Scope, breach_of}
@@ -24,7 +25,7 @@ ops_exit list old e r is h =
 
 no_breach : (s : Scope) (items : List Item) → is_nil items ≡ true
     → breach_of (w.Ops ∷ []) s items ≡ None
-unfolding breach_of
+unfolding machine.breach_of
 no_breach s [] h = refl
 no_breach s (i ∷ items) h = cc
 

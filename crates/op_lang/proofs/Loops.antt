@@ -1,11 +1,9 @@
 -- Lists that are read part by part.
-use Rattle.std.proofs.Common.{◌≡◌, ℕ, ◌≤◌, List, [], ◌∷◌, ◌++◌, map, length, refl, sym, ap, ◌∙◌}
-use Rattle.std.proofs.Common.{codes, arith, append_assoc, append-nil, length-append, ◌+◌, ◌<◌}
-use Rattle.std.proofs.Common.{take, get_or, filter, cond, Bool, true, false}
+use Rattle.op_lang.proofs.Common.{◌≡◌, ℕ, ◌≤◌, List, [], ◌∷◌, ◌++◌, map, length, refl, sym, ap, ◌∙◌}
+use Rattle.op_lang.proofs.Common.{codes, arith, append_assoc, append-nil, length-append, ◌+◌, ◌<◌}
+use Rattle.op_lang.proofs.Common.{take, get_or, filter, cond, Bool, true, false, take_more}
+use Rattle.op_lang.proofs.Common.{map-append, Wanted, after_commas, between_commas, in_turn}
 use Rattle.std.proofs.lemmas.List.Elements.{filter-append}
-use Rattle.std.proofs.lemmas.List.{take_more, map-append}
-use Rattle.op_text.specs.declared.grammar.Wanted.{Wanted}
-use Rattle.op_text.specs.Spelling.{after_commas, between_commas, in_turn}
 use Rattle.op_lang.specs.Reading.{ParserView, breach, left}
 
 following-more : {A : Type 0} (spell : A → List (List ℕ)

@@ -1,36 +1,28 @@
 -- Single tokens.
-use Rattle.std.proofs.Common.{◌≡◌, ℕ, zero, suc, Bool, true, false, cond, not, ◌&&◌, ◌||◌, List, []}
-use Rattle.std.proofs.Common.{◌∷◌, ◌++◌, Option, Some, None, Result, Ok, refl, ap, ◌∙◌, subst}
-use Rattle.std.proofs.Common.{bytes_eq, codes}
-use Rattle.std.proofs.lemmas.Slice.Eq.{bytes_eq-Decides}
+use Rattle.op_lang.proofs.Common.{◌≡◌, ℕ, zero, suc, Bool, true, false, cond, not, ◌&&◌, ◌||◌, List}
+use Rattle.op_lang.proofs.Common.{[], ◌∷◌, ◌++◌, Option, Some, None, Result, Ok, refl, ap, ◌∙◌}
+use Rattle.op_lang.proofs.Common.{subst, bytes_eq, codes, bytes_eq-Decides, Wanted, Terminal}
+use Rattle.op_lang.proofs.Common.{WordOp, terminal_of, opens, follow, op_named, Scope, rules_at}
+use Rattle.op_lang.proofs.Common.{unless, is_plain, is_bad, known_op, gate_named, comma_rules}
+use Rattle.op_lang.proofs.Common.{close_rules, kind_text, direction_text, start_text}
 use Rattle.text_lex.specs.declared.token.TokenKind.{TokenKind}
 use Rattle.text_lex.specs.declared.token.TokenKind.TheVariants as kinds
 use Rattle.text_lex.specs.Spelled.{fits_name}
 use Rattle.op_text.specs.declared.fault.OpsKind.{OpsKind}
-use Rattle.op_text.specs.declared.grammar.Wanted.{Wanted}
-use Rattle.op_text.specs.declared.grammar.Wanted.TheVariants as w
-use Rattle.op_text.specs.declared.terminal.Terminal.{Terminal}
+use Rattle.op_text.specs.declared.wanted.Wanted.TheVariants as w
 use Rattle.op_text.specs.declared.terminal.Terminal.TheVariants as t
 use Rattle.op_text.specs.declared.terminal.Spelling.{Spelling}
 use Rattle.op_text.specs.declared.terminal.Spelling.TheVariants as sp
-use Rattle.op_text.specs.declared.word_ops.WordOp.{WordOp}
 use Rattle.op_text.specs.declared.gate.Gate.{Gate}
 use Rattle.op_text.specs.declared.gate.Gate.TheVariants as gates
-use Rattle.op_text.specs.Items.{terminal_of, opens}
-use Rattle.op_text.specs.Grammar.{follow}
-use Rattle.op_text.specs.WordOps.{op_named}
-use Rattle.op_text.specs.Rules.{Scope, rules_at, unless, is_plain, is_bad, known_op, gate_named}
-use Rattle.op_text.specs.Rules.{comma_rules, close_rules}
-use Rattle.op_text.specs.Spelling.{kind_text, direction_text, start_text}
 use Rattle.op_lang.specs.Reading.{ParserView, breach, is_allowed, Took, left}
 use Rattle.op_lang.proofs.Taking.{took_moves, took_left}
-use Rattle.op_lang.specs.Pieces.{is_mark, mark_text, is_name, is_name_or_end}
-use Rattle.op_lang.specs.Pieces.{is_second, after_second, comma_or_end}
-use Rattle.op_lang.specs.Pieces.{after_name, end_text, is_more, after_comma_or_close}
-use Rattle.op_lang.specs.Pieces.{comma_or_close, is_kind, is_statement, is_named, is_finish}
-use Rattle.op_lang.specs.Pieces.{is_serial_word, is_let_word, kind_at, is_down, is_one, is_comma}
-use Rattle.op_lang.specs.Pieces.{after_start, after_line, gate_text, after_leaf, leaf_spelled}
-use Rattle.op_lang.specs.Pieces.{lacking, bit_leaf}
+use Rattle.op_lang.specs.Pieces.{is_mark, mark_text, is_name, is_name_or_end, is_second}
+use Rattle.op_lang.specs.Pieces.{after_second, comma_or_end, after_name, end_text, is_more}
+use Rattle.op_lang.specs.Pieces.{after_comma_or_close, comma_or_close, is_kind, is_statement}
+use Rattle.op_lang.specs.Pieces.{is_named, is_finish, is_serial_word, is_let_word, kind_at, is_down}
+use Rattle.op_lang.specs.Pieces.{is_one, is_comma, after_start, after_line, gate_text, after_leaf}
+use Rattle.op_lang.specs.Pieces.{leaf_spelled, lacking, bit_leaf}
 use Rattle.op_lang.specs.declared.pieces.Start.TheVariants as start
 use Rattle.op_lang.specs.declared.pieces.Leaf.{Leaf}
 use Rattle.op_lang.specs.declared.pieces.Leaf.TheVariants as leaf
@@ -57,12 +49,6 @@ IsSpelled t.Semi text = text ≡ codes ";"
 IsSpelled t.Colon text = text ≡ codes ":"
 IsSpelled t.Arrow text = text ≡ codes "->"
 IsSpelled t.Other text = Unit {0}
-
-never : {X : Type 0} → false ≡ true → X
-never h = cc
-
-never_so : {X : Type 0} → true ≡ false → X
-never_so h = cc
 
 same : (text lit : List ℕ) → bytes_eq text lit ≡ true → text ≡ lit
 same text lit h = (bytes_eq-Decides text lit).0 h
@@ -127,79 +113,54 @@ pub mark_follows : (want : Wanted) (u : Terminal) (o : Bool) (text : List ℕ) �
     → is_allowed (follow want u o) ≡ true → IsSpelled u text → (follow want u o ≡ Some [])
     × (text ≡ mark_text want)
 mark_follows w.Open t.Opens o text m a s = (refl, s)
-mark_follows w.Open _ o text m a s = never a
 mark_follows w.Begin t.Begins o text m a s = (refl, s)
-mark_follows w.Begin _ o text m a s = never a
 mark_follows w.Colon t.Colon o text m a s = (refl, s)
-mark_follows w.Colon _ o text m a s = never a
 mark_follows w.Arrow t.Arrow o text m a s = (refl, s)
-mark_follows w.Arrow _ o text m a s = never a
 mark_follows w.Equals t.Equals o text m a s = (refl, s)
-mark_follows w.Equals _ o text m a s = never a
 mark_follows w.WordEnd t.Semi o text m a s = (refl, s)
-mark_follows w.WordEnd _ o text m a s = never a
 mark_follows w.LetEnd t.Semi o text m a s = (refl, s)
-mark_follows w.LetEnd _ o text m a s = never a
 mark_follows w.AssignEnd t.Semi o text m a s = (refl, s)
-mark_follows w.AssignEnd _ o text m a s = never a
 mark_follows w.GateOpen t.Opens o text m a s = (refl, s)
-mark_follows w.GateOpen _ o text m a s = never a
-mark_follows _ u o text m a s = never m
+mark_follows _ _ o text m a s = cc
 
 pub name_follows : (want : Wanted) (u : Terminal) (o : Bool) (text : List ℕ) (s s' : Scope)
     → is_name want ≡ true → is_allowed (follow want u o) ≡ true → rules_at want s u text o ≡ Ok s'
     → (follow want u o ≡ Some []) × (fits_name text ≡ true)
 name_follows w.NewOp (t.Name n) o text s s' m a r =
     (refl, fits_too (is_plain n) (fits_name text) _ _ _ s' r)
-name_follows w.NewOp _ o text s s' m a r = never a
 name_follows w.NewParam (t.Name n) o text s s' m a r =
     (refl, fits (is_plain n) (fits_name text) _ _ s' r)
-name_follows w.NewParam _ o text s s' m a r = never a
 name_follows w.NewResult (t.Name n) o text s s' m a r =
     (refl, fits (is_plain n) (fits_name text) _ _ s' r)
-name_follows w.NewResult _ o text s s' m a r = never a
 name_follows w.NewTarget (t.Name n) o text s s' m a r =
     (refl, fits (is_plain n) (fits_name text) _ _ s' r)
-name_follows w.NewTarget _ o text s s' m a r = never a
 name_follows w.ArgName (t.Name n) o text s s' m a r =
     (refl, fits (is_plain n) (fits_name text) _ _ s' r)
-name_follows w.ArgName _ o text s s' m a r = never a
 name_follows w.StateName (t.Name n) o text s s' m a r =
     (refl, fits (is_plain n) (fits_name text) _ _ s' r)
-name_follows w.StateName _ o text s s' m a r = never a
 name_follows w.LetName (t.Name n) o text s s' m a r =
     (refl, fits (is_plain n) (fits_name text) _ _ s' r)
-name_follows w.LetName _ o text s s' m a r = never a
-name_follows _ u o text s s' m a r = never m
+name_follows _ _ o text s s' m a r = cc
 
 pub listed_follows : (want : Wanted) (u : Terminal) (o : Bool) (text : List ℕ) (s s' : Scope)
     → is_name_or_end want ≡ true → is_named u ≡ true → rules_at want s u text o ≡ Ok s'
     → (follow want u o ≡ Some (after_name want)) × (fits_name text ≡ true)
 listed_follows w.Args (t.Name n) o text s s' m a r =
     (refl, fits (is_plain n) (fits_name text) _ _ s' r)
-listed_follows w.Args _ o text s s' m a r = never a
 listed_follows w.States (t.Name n) o text s s' m a r =
     (refl, fits (is_plain n) (fits_name text) _ _ s' r)
-listed_follows w.States _ o text s s' m a r = never a
 listed_follows w.Assigns (t.Name n) o text s s' m a r =
     (refl, fits (is_plain n) (fits_name text) _ _ s' r)
-listed_follows w.Assigns _ o text s s' m a r = never a
-listed_follows _ u o text s s' m a r = never m
+listed_follows _ _ o text s s' m a r = cc
 
 pub end_follows : (want : Wanted) (u : Terminal) (o : Bool) (text : List ℕ)
     → is_name_or_end want ≡ true → is_named u ≡ false → is_allowed (follow want u o) ≡ true
     → IsSpelled u text
     → (follow want u o ≡ Some []) × (text ≡ end_text want)
 end_follows w.Args t.Closes o text m n a s = (refl, s)
-end_follows w.Args (t.Name k) o text m n a s = never_so n
-end_follows w.Args _ o text m n a s = never a
 end_follows w.States t.Closes o text m n a s = (refl, s)
-end_follows w.States (t.Name k) o text m n a s = never_so n
-end_follows w.States _ o text m n a s = never a
 end_follows w.Assigns t.Finishes o text m n a s = (refl, s)
-end_follows w.Assigns (t.Name k) o text m n a s = never_so n
-end_follows w.Assigns _ o text m n a s = never a
-end_follows _ u o text m n a s = never m
+end_follows _ _ o text m n a s = cc
 
 pub more_follows : (want : Wanted) (u : Terminal) (o : Bool) (text : List ℕ) → is_more want ≡ true
     → is_allowed (follow want u o) ≡ true → IsSpelled u text
@@ -207,14 +168,11 @@ pub more_follows : (want : Wanted) (u : Terminal) (o : Bool) (text : List ℕ) �
     × (text ≡ comma_or_close (is_comma u))
 more_follows w.Params t.Comma o text m a s = (refl, s)
 more_follows w.Params t.Closes o text m a s = (refl, s)
-more_follows w.Params _ o text m a s = never a
 more_follows w.MoreArgs t.Comma o text m a s = (refl, s)
 more_follows w.MoreArgs t.Closes o text m a s = (refl, s)
-more_follows w.MoreArgs _ o text m a s = never a
 more_follows w.MoreStates t.Comma o text m a s = (refl, s)
 more_follows w.MoreStates t.Closes o text m a s = (refl, s)
-more_follows w.MoreStates _ o text m a s = never a
-more_follows _ u o text m a s = never m
+more_follows _ _ o text m a s = cc
 
 pub second_follows : (want : Wanted) (u : Terminal) (o : Bool) (text : List ℕ)
     → is_second want ≡ true → is_allowed (follow want u o) ≡ true → IsSpelled u text
@@ -222,39 +180,32 @@ pub second_follows : (want : Wanted) (u : Terminal) (o : Bool) (text : List ℕ)
     × (text ≡ comma_or_end want (is_comma u))
 second_follows w.SecondResult t.Comma o text m a s = (refl, s)
 second_follows w.SecondResult t.Begins o text m a s = (refl, s)
-second_follows w.SecondResult _ o text m a s = never a
 second_follows w.SecondTarget t.Comma o text m a s = (refl, s)
 second_follows w.SecondTarget t.Equals o text m a s = (refl, s)
-second_follows w.SecondTarget _ o text m a s = never a
-second_follows _ u o text m a s = never m
+second_follows _ _ o text m a s = cc
 
 pub kind_follows : (want : Wanted) (u : Terminal) (o : Bool) (text : List ℕ) → is_kind want ≡ true
     → is_allowed (follow want u o) ≡ true → IsSpelled u text
     → (follow want u o ≡ Some []) × (text ≡ kind_text (kind_at u))
 kind_follows w.ParamKind (t.Name sp.Word) o text m a s = (refl, s)
 kind_follows w.ParamKind (t.Name sp.Bit) o text m a s = (refl, s)
-kind_follows w.ParamKind (t.Name _) o text m a s = never a
-kind_follows w.ParamKind _ o text m a s = never a
 kind_follows w.ResultKind (t.Name sp.Word) o text m a s = (refl, s)
 kind_follows w.ResultKind (t.Name sp.Bit) o text m a s = (refl, s)
-kind_follows w.ResultKind (t.Name _) o text m a s = never a
-kind_follows w.ResultKind _ o text m a s = never a
-kind_follows _ u o text m a s = never m
+kind_follows _ _ o text m a s = cc
 
 pub direction_follows : (u : Terminal) (o : Bool) (text : List ℕ)
     → is_allowed (follow w.Direction u o) ≡ true → IsSpelled u text
     → (follow w.Direction u o ≡ Some []) × (text ≡ direction_text (is_down u))
 direction_follows (t.Name sp.Up) o text a s = (refl, s)
 direction_follows (t.Name sp.Down) o text a s = (refl, s)
-direction_follows (t.Name _) o text a s = never a
-direction_follows _ o text a s = never a
+direction_follows _ o text a s = cc
 
 pub start_follows : (u : Terminal) (o : Bool) (text : List ℕ)
     → is_allowed (follow w.Start u o) ≡ true → IsSpelled u text
     → (follow w.Start u o ≡ Some []) × (text ≡ start_text (is_one u))
 start_follows t.Zero o text a s = (refl, s)
 start_follows t.One o text a s = (refl, s)
-start_follows _ o text a s = never a
+start_follows _ o text a s = cc
 
 pub op_follows : (u : Terminal) (o : Bool) (text : List ℕ) → is_allowed (follow w.Ops u o) ≡ true
     → IsSpelled u text
@@ -262,8 +213,7 @@ pub op_follows : (u : Terminal) (o : Bool) (text : List ℕ) → is_allowed (fol
     ∷ w.Arrow ∷ w.NewResult ∷ w.Colon ∷ w.ResultKind ∷ w.SecondResult ∷ w.FirstStmt ∷ w.Ops ∷ []))
     × (text ≡ codes "op")
 op_follows (t.Name sp.Op) o text a s = (refl, s)
-op_follows (t.Name _) o text a s = never a
-op_follows _ o text a s = never a
+op_follows _ o text a s = cc
 
 op_known : (b : Bool) (k : OpsKind) (s s' : Scope) (x : Option WordOp)
     → unless b k (known_op s x) ≡ Ok s' → x ≡ None → ⊥
@@ -278,28 +228,22 @@ word_op_follows (t.Name n) o text s s' a r = (
   refl,
   op_known (is_bad n text) _ s s' (op_named text) r,
 )
-word_op_follows _ o text s s' a r = never a
+word_op_follows _ o text s s' a r = cc
 
 pub end_statement : (want : Wanted) (u : Terminal) (o : Bool) (text : List ℕ)
     → is_statement want ≡ true → is_finish u ≡ true → is_allowed (follow want u o) ≡ true
     → IsSpelled u text
     → (follow want u o ≡ Some []) × (text ≡ codes "}")
 end_statement w.Stmts t.Finishes o text m n a s = (refl, s)
-end_statement w.Stmts _ o text m n a s = never n
-end_statement w.FirstStmt t.Finishes o text m n a s = never a
-end_statement w.FirstStmt _ o text m n a s = never n
-end_statement _ u o text m n a s = never m
+end_statement w.FirstStmt t.Finishes o text m n a s = cc
+end_statement _ _ o text m n a s = cc
 
 pub serial_statement : (want : Wanted) (u : Terminal) (o : Bool) (text : List ℕ)
     → is_statement want ≡ true → is_serial_word u ≡ true → IsSpelled u text
     → (follow want u o ≡ Some (after_start start.Serial)) × (text ≡ codes "serial")
 serial_statement w.Stmts (t.Name sp.Serial) o text m n s = (refl, s)
-serial_statement w.Stmts (t.Name _) o text m n s = never n
-serial_statement w.Stmts _ o text m n s = never n
 serial_statement w.FirstStmt (t.Name sp.Serial) o text m n s = (refl, s)
-serial_statement w.FirstStmt (t.Name _) o text m n s = never n
-serial_statement w.FirstStmt _ o text m n s = never n
-serial_statement _ u o text m n s = never m
+serial_statement _ _ o text m n s = cc
 
 pub word_statement : (want : Wanted) (u : Terminal) (o : Bool) (text : List ℕ) (s s' : Scope)
     → is_statement want ≡ true → is_finish u ≡ false → is_serial_word u ≡ false
@@ -308,33 +252,14 @@ pub word_statement : (want : Wanted) (u : Terminal) (o : Bool) (text : List ℕ)
     × (fits_name text ≡ true)
 word_statement w.FirstStmt (t.Name sp.Plain) o text s s' m f n a r =
     (refl, fits (is_plain sp.Plain) (fits_name text) _ _ s' r)
-word_statement w.FirstStmt (t.Name sp.Op) o text s s' m f n a r = cc
-word_statement w.FirstStmt (t.Name sp.Word) o text s s' m f n a r = cc
-word_statement w.FirstStmt (t.Name sp.Bit) o text s s' m f n a r = cc
-word_statement w.FirstStmt (t.Name sp.Up) o text s s' m f n a r = cc
-word_statement w.FirstStmt (t.Name sp.Down) o text s s' m f n a r = cc
-word_statement w.FirstStmt (t.Name sp.Let) o text s s' m f n a r = cc
-word_statement w.FirstStmt (t.Name sp.Serial) o text s s' m f n a r = never_so n
-word_statement w.FirstStmt t.Finishes o text s s' m f n a r = never_so f
-word_statement w.FirstStmt _ o text s s' m f n a r = never a
 word_statement w.Stmts (t.Name sp.Plain) o text s s' m f n a r =
     (refl, fits (is_plain sp.Plain) (fits_name text) _ _ s' r)
-word_statement w.Stmts (t.Name sp.Op) o text s s' m f n a r = cc
-word_statement w.Stmts (t.Name sp.Word) o text s s' m f n a r = cc
-word_statement w.Stmts (t.Name sp.Bit) o text s s' m f n a r = cc
-word_statement w.Stmts (t.Name sp.Up) o text s s' m f n a r = cc
-word_statement w.Stmts (t.Name sp.Down) o text s s' m f n a r = cc
-word_statement w.Stmts (t.Name sp.Let) o text s s' m f n a r = cc
-word_statement w.Stmts (t.Name sp.Serial) o text s s' m f n a r = never_so n
-word_statement w.Stmts t.Finishes o text s s' m f n a r = never_so f
-word_statement w.Stmts _ o text s s' m f n a r = never a
-word_statement _ u o text s s' m f n a r = never m
+word_statement _ _ o text s s' m f n a r = cc
 
 pub let_line : (u : Terminal) (o : Bool) (text : List ℕ) → is_let_word u ≡ true → IsSpelled u text
     → (follow w.Lets u o ≡ Some (after_line None)) × (text ≡ codes "let")
 let_line (t.Name sp.Let) o text n s = (refl, s)
-let_line (t.Name _) o text n s = never n
-let_line _ o text n s = never n
+let_line _ o text n s = cc
 
 pub target_line : (u : Terminal) (o : Bool) (text : List ℕ) (s s' : Scope) → is_let_word u ≡ false
     → is_allowed (follow w.Lets u o) ≡ true → rules_at w.Lets s u text o ≡ Ok s'
@@ -347,8 +272,7 @@ target_line (t.Name sp.Bit) o text s s' n a r = cc
 target_line (t.Name sp.Up) o text s s' n a r = cc
 target_line (t.Name sp.Down) o text s s' n a r = cc
 target_line (t.Name sp.Serial) o text s s' n a r = cc
-target_line (t.Name sp.Let) o text s s' n a r = never_so n
-target_line _ o text s s' n a r = never a
+target_line _ o text s s' n a r = cc
 
 pub mark_took : (want : Wanted) (old : ParserView) (text : List ℕ) (u : Terminal) (new : ParserView)
     → is_mark want ≡ true → Took want old text u new → (more : List Wanted)
@@ -501,8 +425,7 @@ pub bit_value : (u : Terminal) (o : Bool) (text : List ℕ) (s s' : Scope) → i
     × (s'.block.missing ≡ lacking (bit_leaf u) s.block.missing)
 bit_value t.Zero o text s s' n a k r = (refl, k, ok_missing s s' r)
 bit_value t.One o text s s' n a k r = (refl, k, ok_missing s s' r)
-bit_value (t.Name n) o text s s' m a k r = never_so m
-bit_value _ o text s s' n a k r = never a
+bit_value _ o text s s' n a k r = cc
 
 pub gate_value : (u : Terminal) (o : Bool) (text : List ℕ) (s s' : Scope) (g : Gate)
     → is_named u ≡ true → o ≡ true → gate_named text ≡ Some g → rules_at w.Value s u text o ≡ Ok s'
@@ -511,16 +434,14 @@ pub gate_value : (u : Terminal) (o : Bool) (text : List ℕ) (s s' : Scope) (g :
 gate_value (t.Name n) true text s s' g m e k r =
     let r' = rw k at (unless_ok (is_bad n text) _ _ s' r) in
     (refl, ok_missing _ s' (unless_ok _ _ _ s' r'))
-gate_value (t.Name n) false text s s' g m e k r = never e
-gate_value _ o text s s' g m e k r = never m
+gate_value _ o text s s' g m e k r = cc
 
 -- a gate's name, where a parenthesis follows
 pub gate_known : (u : Terminal) (o : Bool) (text : List ℕ) (s s' : Scope) → is_named u ≡ true
     → o ≡ true → gate_named text ≡ None → rules_at w.Value s u text o ≡ Ok s' → ⊥
 gate_known (t.Name n) true text s s' m e k r =
     let r' = rw k at (unless_ok (is_bad n text) _ _ s' r) in cc
-gate_known (t.Name n) false text s s' m e k r = never e
-gate_known _ o text s s' m e k r = never m
+gate_known _ o text s s' m e k r = cc
 
 pub name_value : (u : Terminal) (o : Bool) (text : List ℕ) (s s' : Scope) → is_named u ≡ true
     → o ≡ false → rules_at w.Value s u text o ≡ Ok s'
@@ -531,8 +452,7 @@ name_value (t.Name n) false text s s' m e r = (
   fits (is_plain n) (fits_name text) _ _ s' r,
   ok_missing s s' (unless_ok _ _ _ s' (unless_ok (is_bad n text) _ _ s' r)),
 )
-name_value (t.Name n) true text s s' m e r = never_so e
-name_value _ o text s s' m e r = never m
+name_value _ o text s s' m e r = cc
 
 -- after an argument
 comma_ok : (s s' : Scope) (n : ℕ) (outer m : List ℕ) → m ≡ suc n ∷ outer → comma_rules s m ≡ Ok s'
@@ -559,7 +479,7 @@ comma_follows t.Comma o text s s' n outer e a k r =
     (refl, k, comma_ok s s' n outer s.block.missing e r)
 comma_follows t.Closes o text s s' n outer e a k r =
     absurd (comma_no_close s s' n outer s.block.missing e r)
-comma_follows _ o text s s' n outer e a k r = never a
+comma_follows _ o text s s' n outer e a k r = cc
 
 pub close_follows : (u : Terminal) (o : Bool) (text : List ℕ) (s s' : Scope) (outer : List ℕ)
     → s.block.missing ≡ zero ∷ outer → is_allowed (follow w.More u o) ≡ true → IsSpelled u text
@@ -569,7 +489,7 @@ close_follows t.Closes o text s s' outer e a k r =
     (refl, k, close_ok s s' outer s.block.missing e r)
 close_follows t.Comma o text s s' outer e a k r =
     absurd (close_no_comma s s' outer s.block.missing e r)
-close_follows _ o text s s' outer e a k r = never a
+close_follows _ o text s s' outer e a k r = cc
 
 -- what one of these was taken as
 pub record AsComma (n : ℕ) (outer : List ℕ) (old new : ParserView) : Type 0 where
@@ -651,7 +571,7 @@ read_took old text u new n o k =
 open_is : (u : Terminal) (o : Bool) → is_allowed (follow w.GateOpen u o) ≡ true
     → follow w.GateOpen u o ≡ Some []
 open_is t.Opens o a = refl
-open_is _ o a = never a
+open_is _ o a = cc
 
 pub open_took : (old : ParserView) (text : List ℕ) (u : Terminal) (new : ParserView)
     → Took w.GateOpen old text u new → (more : List Wanted)

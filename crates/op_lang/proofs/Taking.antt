@@ -1,21 +1,14 @@
 -- A token is taken.
-use Rattle.std.proofs.Common.{◌≡◌, ℕ, Bool, true, List, [], ◌∷◌, ◌++◌, Option, Some, Result}
-use Rattle.std.proofs.Common.{Ok, Err, refl, sym, ap, ◌∙◌, subst}
-use Rattle.std.specs.Result.{IsErrAnd, IfErr, IfOk}
-use Rattle.std.proofs.lemmas.Result.{err_from_is_err_and}
-use Rattle.text_lex.specs.Lexical.{Item, Whole, Bad, lexeme_of}
+use Rattle.op_lang.proofs.Common.{◌≡◌, ℕ, Bool, true, List, [], ◌∷◌, ◌++◌, Option, Some, Result, Ok}
+use Rattle.op_lang.proofs.Common.{Err, refl, sym, ap, ◌∙◌, subst, IsErrAnd, IfErr, IfOk}
+use Rattle.op_lang.proofs.Common.{err_from_is_err_and, Item, Whole, Bad, lexeme_of, Breach, Wanted}
+use Rattle.op_lang.proofs.Common.{Terminal, Term, term, term_text, opens, no_token, texts, follow}
+use Rattle.op_lang.proofs.Common.{Scope, breach_of, operation_texts}
 use Rattle.text_lex.specs.declared.token.Token.{Token}
-use Rattle.op_text.specs.declared.fault.Breach.{Breach}
-use Rattle.op_text.specs.declared.grammar.Wanted.{Wanted}
-use Rattle.op_text.specs.declared.grammar.Wanted.TheVariants as w
-use Rattle.op_text.specs.declared.terminal.Terminal.{Terminal}
+use Rattle.grammar.specs.Machine as machine
+use Rattle.op_text.specs.declared.wanted.Wanted.TheVariants as w
 use Rattle.op_text.specs.declared.tree.Expr.{Expr}
-use Rattle.op_text.specs.Language.{Term, term}
-use Rattle.op_text.specs.Spelling.{term_text}
-use Rattle.op_text.specs.Items.{opens, no_token, texts}
-use Rattle.op_text.specs.Grammar.{follow}
-use Rattle.op_text.specs.Rules.{Scope, breach_of}
-use Rattle.op_text.proofs.Steps.{moved, refused}
+use Rattle.grammar.proofs.Steps.{moved, refused}
 use Rattle.op_lang.specs.declared.fault.ReadError.{ReadError}
 use Rattle.op_lang.specs.declared.fault.ReadError.TheVariants as no
 use Rattle.op_lang.specs.declared.parser.Taken.{Taken}
@@ -27,7 +20,7 @@ use Rattle.op_lang.specs.Judging.{IsWrong, JudgesToken}
 pub due_end : (want : Wanted) (s : Scope) (items : List Item) (b : Breach)
     → is_due want (record { scope = s; items = items }) ≡ true → no_token items ≡ Some b
     → (more : List Wanted) → breach_of (want ∷ more) s items ≡ Some b
-unfolding breach_of
+unfolding machine.breach_of
 due_end w.Ops s [] b h e more = cc
 due_end _ s [] b h e more = e
 due_end want s (Bad f ∷ items) b h e more = e
@@ -40,7 +33,7 @@ pub wrong_fails : (want : Wanted) (s : Scope) (old : List Item) (token : Token) 
     (o : Bool) (b : Breach) → old ≡ Whole (lexeme_of token) ∷ new → o ≡ opens new
     → IsWrong want s token o b → (more : List Wanted) → breach_of (want ∷ more) s old ≡ Some b
 wrong_fails want s old token new o b e f h more =
-    refused want s old (lexeme_of token) new b.kind e (rw (← f) h.breaks) more
+    refused operation_texts want s old (lexeme_of token) new b.kind e (rw (← f) h.breaks) more
     ∙ ap Some (same_breach b token.start h.place)
 
 pub refused_fails : (want : Wanted) (s : Scope) (old : List Item) (token : Token) (new : List Item)
@@ -58,7 +51,7 @@ pub took_moves : (want : Wanted) (old : ParserView) (text : List ℕ) (u : Termi
     → follow want u (opens new.items) ≡ Some front
     → (more : List Wanted) → breach (want ∷ more) old ≡ breach (front ++ more) new
 took_moves want old text u new h front e more =
-    moved want old.scope old.items (record { kind = h.kind; text = text; start = h.start })
+    moved operation_texts want old.scope old.items (record { kind = h.kind; text = text; start = h.start })
     new.items front new.scope h.items (rw (h.is, e, h.rules) refl) more
 
 pub took_left : (want : Wanted) (old : ParserView) (text : List ℕ) (u : Terminal) (new : ParserView)

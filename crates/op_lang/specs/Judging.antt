@@ -1,9 +1,9 @@
 -- What is said of a token.
 use Rattle.std.specs.Prelude.{◌≡◌, Bool, true, Some, Result, Ok, Err}
 use Rattle.text_lex.specs.declared.token.Token.{Token}
-use Rattle.op_text.specs.declared.grammar.Wanted.{Wanted}
+use Rattle.op_text.specs.declared.wanted.Wanted.{Wanted}
 use Rattle.op_text.specs.declared.terminal.Terminal.{Terminal}
-use Rattle.op_text.specs.declared.fault.Breach.{Breach}
+use Rattle.op_text.specs.Items.{Breach}
 use Rattle.op_text.specs.Items.{terminal_of}
 use Rattle.op_text.specs.Grammar.{follow}
 use Rattle.op_text.specs.Rules.{Scope, rules_at, step}

@@ -1,8 +1,8 @@
 -- Single tokens: what each is spelled by and what comes after it.
-use Rattle.std.specs.Prelude.{◌≡◌, ℕ, ◌-◌, Bool, true, false, List, [], ◌∷◌, Option, Some, None}
+use Rattle.std.specs.Prelude.{ℕ, ◌-◌, Bool, true, false, List, [], ◌∷◌, Option, Some, None}
 use Rattle.std.specs.Prelude.{codes}
-use Rattle.op_text.specs.declared.grammar.Wanted.{Wanted}
-use Rattle.op_text.specs.declared.grammar.Wanted.TheVariants as w
+use Rattle.op_text.specs.declared.wanted.Wanted.{Wanted}
+use Rattle.op_text.specs.declared.wanted.Wanted.TheVariants as w
 use Rattle.op_text.specs.declared.terminal.Terminal.{Terminal}
 use Rattle.op_text.specs.declared.terminal.Terminal.TheVariants as t
 use Rattle.op_text.specs.declared.terminal.Spelling.TheVariants as sp

@@ -3,13 +3,12 @@ use Rattle.std.specs.Prelude.{◌≡◌, ℕ, Bool, true, false, ◌&&◌, not, 
 use Rattle.std.specs.Prelude.{Some, None, Result, Ok, Err}
 use Rattle.text_lex.specs.declared.token.TokenKind.{TokenKind}
 use Rattle.text_lex.specs.Lexical.{Item, Whole}
-use Rattle.op_text.specs.declared.fault.Breach.{Breach}
-use Rattle.op_text.specs.declared.grammar.Wanted.{Wanted}
-use Rattle.op_text.specs.declared.grammar.Wanted.TheVariants as w
+use Rattle.op_text.specs.Items.{Breach}
+use Rattle.op_text.specs.declared.wanted.Wanted.{Wanted}
 use Rattle.op_text.specs.declared.terminal.Terminal.{Terminal}
 use Rattle.op_text.specs.Items.{opens, terminal_of, texts}
 use Rattle.op_text.specs.Grammar.{follow}
-use Rattle.op_text.specs.Rules.{Scope, rules_at, breach_of}
+use Rattle.op_text.specs.Rules.{Scope, rules_at, breach_of, may_end}
 use Rattle.op_lang.specs.declared.fault.ReadError.{ReadError}
 use Rattle.op_lang.specs.declared.fault.ReadError.TheVariants as no
 use Rattle.op_lang.specs.declared.parser.Taken.{Taken}
@@ -24,7 +23,7 @@ pub record ParserView : Type 0 where
 abbrev pub breach : List Wanted → ParserView → Option Breach
 breach wanted r = breach_of wanted r.scope r.items
 
--- a fault that is told is the one that was found; want of memory may come of any text
+-- a fault that is told is the one that was found; any text may find the reader out of memory
 abbrev pub Fails : Option Breach → ReadError → Type 0
 Fails found no.Memory = Unit {0}
 Fails found (no.Breach b) = found ≡ Some b
@@ -63,11 +62,6 @@ pub record Took (wanted : Wanted) (old : ParserView) (text : List ℕ) (terminal
 abbrev pub Takes : Wanted → ParserView → Result Taken ReadError → ParserView → Type 0
 Takes wanted old (Ok t) new = Took wanted old t.text.now t.terminal new
 Takes wanted old (Err e) new = (more : List Wanted) → Fails (breach (wanted ∷ more) old) e
-
--- the end of the text is no fault where an op is wanted
-abbrev pub may_end : Wanted → Bool
-may_end w.Ops = true
-may_end wanted = false
 
 -- a token is wanted, or the text may not end here
 abbrev pub is_due : Wanted → ParserView → Bool

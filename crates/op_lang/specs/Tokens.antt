@@ -2,7 +2,7 @@
 use Rattle.std.specs.Prelude.{◌≡◌, Bool, true, false, List, [], ◌∷◌, Some, Result, Ok, Err}
 use Rattle.text_lex.specs.Lexical.{Item, Whole, Bad, lexeme_of}
 use Rattle.text_lex.specs.declared.token.Token.{Token}
-use Rattle.op_text.specs.declared.fault.Breach.{Breach}
+use Rattle.op_text.specs.Items.{Breach}
 use Rattle.op_text.specs.Items.{no_token}
 use Rattle.op_lang.specs.declared.tokens.Ahead.{Ahead}
 use Rattle.op_lang.specs.declared.tokens.Ahead.TheVariants as ahead

@@ -6,14 +6,15 @@ ghost use Rattle.op_lang.specs.declared.fault.ReadError.TheVariants.{Memory};
 ghost use Rattle.op_lang.specs.declared.fault.RuleError.TheVariants as refused;
 
 use faults::NoMemory;
-use op_text::{Breach, OpsKind};
+use grammar::Breach;
+use op_text::OpsKind;
 use std::alloc::{AllocError, AllocFailed};
 
 /// Why a part of a text is not read.
 #[derive(Drop)]
 pub(crate) enum ReadError {
     Memory,
-    Breach(Breach),
+    Breach(Breach<OpsKind>),
 }
 
 /// Why a token is refused that the grammar allows.
@@ -47,10 +48,10 @@ impl<T: Drop> From<AllocFailed<T>> for ReadError {
     }
 }
 
-impl From<Breach> for ReadError {
+impl From<Breach<OpsKind>> for ReadError {
     ghost from_gives = { λ b e. e ≡ no.Breach b };
 
-    fn from(b: Breach) -> ReadError {
+    fn from(b: Breach<OpsKind>) -> ReadError {
         ReadError::Breach(b)
     }
 }

@@ -1,7 +1,7 @@
 //! Lists with commas: sources, arguments and states.
 
 ghost use Rattle.std.specs.Prelude.{◌≡◌, List, [], ◌∷◌, IfOk, codes, true};
-ghost use Rattle.op_text.specs.declared.grammar.Wanted.TheVariants as w;
+ghost use Rattle.op_text.specs.declared.wanted.Wanted.TheVariants as w;
 ghost use Rattle.op_text.specs.Spelling.{between_commas, param_text, state_text, name_text};
 ghost use Rattle.op_lang.specs.Reading.{Moves, left};
 ghost use Rattle.op_lang.specs.Pieces.{is_name, is_kind};

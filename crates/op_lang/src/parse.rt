@@ -2,7 +2,7 @@
 
 ghost use Rattle.std.specs.Prelude.{◌≡◌, ◌<◌, ◌≤◌, ◌^◌, ◌==◌, List, [], ◌∷◌, IfOk, codes, true};
 ghost use Rattle.std.specs.Prelude.{false, map, length, count_by};
-ghost use Rattle.op_text.specs.declared.grammar.Wanted.TheVariants as w;
+ghost use Rattle.op_text.specs.declared.wanted.Wanted.TheVariants as w;
 ghost use Rattle.op_text.specs.Language.{operation, operations};
 ghost use Rattle.op_text.specs.Spelling.{operation_text, between_commas, after_comma, param_text};
 ghost use Rattle.op_text.specs.Spelling.{MeetRules};

@@ -1,7 +1,7 @@
 //! Single tokens of a text.
 
 ghost use Rattle.std.specs.Prelude.{◌≡◌, true, false, List, [], ◌∷◌, OnOk, IfOk, codes};
-ghost use Rattle.op_text.specs.declared.grammar.Wanted.TheVariants as w;
+ghost use Rattle.op_text.specs.declared.wanted.Wanted.TheVariants as w;
 ghost use Rattle.op_text.specs.WordOps.{op_text};
 ghost use Rattle.op_text.specs.Spelling.{kind_text, direction_text, start_text};
 ghost use Rattle.op_lang.specs.Tokens.{is_nil};

@@ -2,7 +2,7 @@
 
 ghost use Rattle.std.specs.Prelude.{◌≡◌, List, [], ◌∷◌, ◌++◌, IfOk, codes, true, map, Option, Some};
 ghost use Rattle.std.specs.Prelude.{None};
-ghost use Rattle.op_text.specs.declared.grammar.Wanted.TheVariants as w;
+ghost use Rattle.op_text.specs.declared.wanted.Wanted.TheVariants as w;
 ghost use Rattle.op_text.specs.WordOps.{op_text};
 ghost use Rattle.op_text.specs.Language.{equation, statement};
 ghost use Rattle.op_text.specs.Spelling.{in_turn, between_commas, equation_text, let_text};

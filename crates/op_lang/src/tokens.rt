@@ -5,7 +5,8 @@ ghost use Rattle.text_lex.specs.Lexical.{items_of};
 ghost use Rattle.op_text.specs.Items.{opens};
 ghost use Rattle.op_lang.specs.Tokens.{shown, is_nil, TakesToken};
 
-use op_text::{Breach, OpsKind, Terminal, terminal_of};
+use grammar::Breach;
+use op_text::{OpsKind, Terminal, terminal_of};
 use std::marker::Model;
 use text_lex::{LexFault, Lexer, Token};
 
@@ -53,7 +54,7 @@ impl<'a> Tokens<'a> {
     }
 
     /// The next token.
-    pub fn take(&mut self) -> Result<Token<'a>, Breach>
+    pub fn take(&mut self) -> Result<Token<'a>, Breach<OpsKind>>
         ensures { TakesToken self.old result self.new }
     {
         match self.ahead {

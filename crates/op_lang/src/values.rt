@@ -3,7 +3,7 @@
 ghost use Rattle.std.specs.Prelude.{◌≡◌, ◌<◌, ◌-◌, ℕ, suc, zero, length, List, [], ◌∷◌, OnOk, IfOk};
 ghost use Rattle.std.specs.Prelude.{IfErr, codes};
 ghost use Rattle.op_lang.specs.declared.fault.ReadError.TheVariants.{Memory};
-ghost use Rattle.op_text.specs.declared.grammar.Wanted.TheVariants as w;
+ghost use Rattle.op_text.specs.declared.wanted.Wanted.TheVariants as w;
 ghost use Rattle.op_text.specs.Rules.{gate_arguments};
 ghost use Rattle.op_text.specs.Language.{term, Negation, Majority};
 ghost use Rattle.op_text.specs.Spelling.{term_text};

@@ -1,22 +1,16 @@
 -- No name of an op stands twice.
-use Rattle.std.proofs.Common.{◌≡◌, ℕ, Bool, true, false, not, List, [], ◌∷◌, ◌++◌, Option, Some}
-use Rattle.std.proofs.Common.{None, ap}
-use Rattle.std.specs.Option.{option_to_list}
-use Rattle.std.proofs.Common.{refl, sym, ◌∙◌, append_assoc, append-nil, bytes_eq, cond, subst}
-use Rattle.std.specs.List.{filter}
-use Rattle.op_text.specs.declared.tree.Kind.{Kind}
-use Rattle.op_text.specs.declared.tree.Kind.TheVariants.{Word, Bit}
-use Rattle.op_text.specs.declared.tree.Param.{Param}
-use Rattle.op_text.specs.WordOps.{second_kind}
-use Rattle.op_text.specs.Rules.{is_among, kind_among, is_known}
-use Rattle.op_text.specs.Language.{Statement, Compute, Visit}
-use Rattle.op_text.specs.Scratch.{kind_of, defines, body_defines, state_names, word_names}
-use Rattle.op_text.specs.Spelling.{Each}
+use Rattle.op_rules.proofs.Common.{◌≡◌, ℕ, Bool, true, false, not, List, [], ◌∷◌, ◌++◌, Option}
+use Rattle.op_rules.proofs.Common.{Some, None, ap, option_to_list, refl, sym, ◌∙◌, append_assoc}
+use Rattle.op_rules.proofs.Common.{append-nil, bytes_eq, cond, subst, filter, Kind, Word, Bit}
+use Rattle.op_rules.proofs.Common.{Param, second_kind, is_among, Statement, Compute, Visit, kind_of}
+use Rattle.op_rules.proofs.Common.{defines, body_defines, state_names, word_names, Each, kind_among}
+use Rattle.op_rules.proofs.Common.{is_known}
 use Rattle.op_rules.specs.Meets.{IsNew, IsNewOf, Differ, Context, used, names_of, let_names}
-use Rattle.op_rules.specs.Meets.{targets, next_context, at_start, StatementMeets, BodyMeets, IsKnown}
+use Rattle.op_rules.specs.Meets.{targets, next_context, at_start, StatementMeets, BodyMeets}
+use Rattle.op_rules.specs.Meets.{IsKnown}
 use Rattle.op_rules.specs.Laws.{NamesStandOnce, TargetsAreApart}
-use Rattle.op_rules.proofs.Names.{same_name, other_way, new-left, new-append, each_map}
-use Rattle.op_rules.proofs.Names.{others_new, or_first, or_second, or_both}
+use Rattle.op_rules.proofs.Names.{same_name, other_way, new-left, new-append, each_map, others_new}
+use Rattle.op_rules.proofs.Names.{or_first, or_second, or_both}
 use Rattle.op_rules.proofs.Standing.{names-append}
 use Rattle.op_rules.proofs.Blocks.{block_names, no_other, not_both}
 use Rattle.op_rules.proofs.Fitting.{known-among, found_each}

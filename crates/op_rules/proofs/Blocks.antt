@@ -1,27 +1,20 @@
 -- A block that breaks no rule meets the rules.
-use Rattle.std.proofs.Common.{◌≡◌, ℕ, ◌+◌, Bool, true, false, not, ◌||◌, ◌&&◌, nat_le, List, []}
-use Rattle.std.proofs.Common.{◌∷◌, ◌++◌, map, length, arith, None, refl, sym, ap, ◌∙◌, codes, subst}
-use Rattle.std.proofs.Common.{append_assoc, append-nil, bytes_eq, cond}
-use Rattle.std.specs.List.{filter}
-use Rattle.text_lex.specs.Lexical.{Item}
+use Rattle.op_rules.proofs.Common.{◌≡◌, ℕ, ◌+◌, Bool, true, false, not, ◌||◌, ◌&&◌, nat_le, List}
+use Rattle.op_rules.proofs.Common.{[], ◌∷◌, ◌++◌, map, length, arith, None, refl, sym, ap, ◌∙◌}
+use Rattle.op_rules.proofs.Common.{codes, subst, append_assoc, append-nil, bytes_eq, cond, filter}
+use Rattle.op_rules.proofs.Common.{Item, Kind, Word, Bit, Param, Wanted, is_among, Block, Visit}
+use Rattle.op_rules.proofs.Common.{param, state_names, word_names, items_spelled, between_commas}
+use Rattle.op_rules.proofs.Common.{in_turn, state_text, let_text, equation_text, statement_text}
+use Rattle.op_rules.proofs.Common.{Each, HasStatement, Open, Scope, breach_of, kind_among, is_known}
+use Rattle.op_text.specs.declared.wanted.Wanted.TheVariants.{Stmts, States, Direction, Begin, Lets}
+use Rattle.op_text.specs.Spelling.{direction_text}
+use Rattle.grammar.specs.Machine as machine
 use Rattle.op_text.specs.declared.fault.OpsKind.TheVariants as why
-use Rattle.op_text.specs.declared.tree.Kind.{Kind}
-use Rattle.op_text.specs.declared.tree.Kind.TheVariants.{Word, Bit}
-use Rattle.op_text.specs.declared.tree.Param.{Param}
-use Rattle.op_text.specs.declared.grammar.Wanted.{Wanted}
-use Rattle.op_text.specs.declared.grammar.Wanted.TheVariants.{Stmts, Direction, Open, States, Begin}
-use Rattle.op_text.specs.declared.grammar.Wanted.TheVariants.{Lets}
-use Rattle.op_text.specs.Rules.{Scope, breach_of, is_among, kind_among, is_known}
-use Rattle.op_text.specs.Language.{Block, Visit}
-use Rattle.op_text.specs.Scratch.{param, state_names, word_names}
-use Rattle.op_text.specs.Spelling.{items_spelled, direction_text, between_commas, in_turn}
-use Rattle.op_text.specs.Spelling.{state_text, let_text, equation_text, statement_text, Each}
-use Rattle.op_text.specs.Spelling.{HasStatement}
 use Rattle.op_rules.specs.Meets.{IsGood, IsNew, IsNewOf, IsNewLet, Context, used, names_of}
 use Rattle.op_rules.specs.Meets.{let_names}
-use Rattle.op_rules.proofs.Names.{same_name, among-append, or_first, or_second}
+use Rattle.op_rules.proofs.Names.{same_name, among-append, or_first, or_second, or_both, each_both}
+use Rattle.op_rules.proofs.Names.{fresh-new, fresh-differ}
 use Rattle.op_rules.proofs.Fitting.{known-among, word_fits}
-use Rattle.op_rules.proofs.Names.{or_both, each_both, fresh-new, fresh-differ}
 use Rattle.op_rules.proofs.Tokens.{goes, name_lexeme, one_rule, le_no}
 use Rattle.op_rules.proofs.Standing.{Standing, given-at, standing-more, names-append, more_context}
 use Rattle.op_rules.proofs.Words.{at_statement, AfterStatement}
@@ -32,7 +25,7 @@ pub direction_moves : (down : Bool) (s : Scope) (wanted : List Wanted) (rest : L
     → breach_of (Direction ∷ Open ∷ wanted) s
     (items_spelled (direction_text down ∷ codes "(" ∷ rest))
     ≡ breach_of wanted s (items_spelled rest)
-unfolding breach_of
+unfolding machine.breach_of
 direction_moves false s wanted rest = refl
 direction_moves true s wanted rest = refl
 
@@ -47,12 +40,10 @@ target_new st u r s t d g e f k z h =
   where
     cases : (u r t d : Bool) → (r ≡ true → u ≡ d) → (r ≡ true → t ≡ false)
         → ((((u || r) || false) || t) && not false && not (r && not d)) ≡ false → (u || t) ≡ false
-    cases true false t d f k h = cc
-    cases true true t true f k h = cc
     cases true true t false f k h = let e = f refl in cc
     cases false true t d f k h = k refl
-    cases false false true d f k h = cc
     cases false false false d f k h = refl
+    cases _ _ _ _ f k h = cc
 
 pub no_other : (b : Bool) → (b ≡ true → ⊥) → b ≡ false
 no_other true f = absurd (f refl)
@@ -94,12 +85,10 @@ block_names S W =
     ∙ ap (λ l. S ++ l) (names_of-param Word W)
 
 other_names : (a s t w : Bool) → ((a || s) || t) || w ≡ a || ((s || w) || t)
-other_names true s t w = refl
-other_names false true t w = refl
 other_names false false true true = refl
-other_names false false true false = refl
 other_names false false false true = refl
-other_names false false false false = refl
+other_names false true t w = refl
+other_names _ _ _ _ = refl
 
 or_true : (a b : Bool) → b ≡ true → (a || b) ≡ true
 or_true true b h = refl
@@ -191,7 +180,7 @@ pub block_peels : (b : Block) (ops stands : List (List ℕ)) (c : Context)
     → breach_of (Stmts ∷ wanted) (at_statement ops stands c count)
     (items_spelled (statement_text (Visit b) rest)) ≡ None
     → AfterStatement (Visit b) ops c count wanted rest
-unfolding breach_of
+unfolding machine.breach_of
 block_peels b ops stands c count wanted rest n st h =
     let here = before_block ops stands c count in
     let S = state_names b in

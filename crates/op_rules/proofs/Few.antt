@@ -1,23 +1,16 @@
 -- The names of an op are few.
-use Rattle.std.proofs.Common.{◌≡◌, ℕ, ◌+◌, ◌*◌, ◌≤◌, length, lit≤, Bool, false, not, ◌&&◌, map}
-use Rattle.std.proofs.Common.{count_by, List, [], ◌∷◌, ◌++◌, refl, ap, ◌∙◌, cond}
-use Rattle.std.proofs.Common.{zero-add, arith, Some, None}
-use Rattle.std.specs.List.{filter}
+use Rattle.op_rules.proofs.Common.{◌≡◌, ℕ, ◌+◌, ◌*◌, ◌≤◌, length, lit≤, Bool, false, not, ◌&&◌, map}
+use Rattle.op_rules.proofs.Common.{count_by, List, [], ◌∷◌, ◌++◌, refl, ap, ◌∙◌, cond, zero-add}
+use Rattle.op_rules.proofs.Common.{arith, Some, None, filter, length-map, sum_by-cons, Kind, Word}
+use Rattle.op_rules.proofs.Common.{Bit, Param, WordOp, same_kind, is_among, Statement, Compute}
+use Rattle.op_rules.proofs.Common.{Visit, Equation, result_names, param, defines, body_defines}
+use Rattle.op_rules.proofs.Common.{state_names, word_names, bits_inside, words_inside, need_inside}
+use Rattle.op_rules.proofs.Common.{greatest, scratch_names, sum_by-append, count_by-le-length}
+use Rattle.std.proofs.lemmas.List.Sums.{length-filter}
 use Rattle.std.proofs.lemmas.Bool.Decides.{nat_tests}
-use Rattle.std.proofs.lemmas.List.{length-map}
-use Rattle.std.proofs.lemmas.List.Sums.{sum_by-cons, sum_by-append, length-filter}
-use Rattle.std.proofs.lemmas.List.Sums.{count_by-le-length}
-use Rattle.op_text.specs.declared.tree.Kind.{Kind}
-use Rattle.op_text.specs.declared.tree.Kind.TheVariants.{Word, Bit}
-use Rattle.op_text.specs.declared.tree.Param.{Param}
-use Rattle.op_text.specs.declared.word_ops.WordOp.{WordOp}
 use Rattle.op_text.specs.declared.word_ops.WordOp.TheVariants as o
-use Rattle.op_text.specs.WordOps.{same_kind}
-use Rattle.op_text.specs.Rules.{is_among}
-use Rattle.op_text.specs.Language.{Statement, Compute, Visit, Equation, result_names}
-use Rattle.op_text.specs.Scratch.{param, defines, body_defines, state_names, word_names}
-use Rattle.op_text.specs.Scratch.{bits_inside, words_inside, need_inside, greatest, scratch_names}
-use Rattle.op_rules.specs.Meets.{Context, next_context, at_start, targets, StatementMeets, BodyMeets}
+use Rattle.op_rules.specs.Meets.{Context, next_context, at_start, targets, StatementMeets}
+use Rattle.op_rules.specs.Meets.{BodyMeets}
 use Rattle.op_rules.specs.Laws.{ScratchIsSmall}
 
 -- a name of a kind, other than these

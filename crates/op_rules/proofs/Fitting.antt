@@ -1,12 +1,8 @@
 -- The kinds of results, where names are theirs.
-use Rattle.std.proofs.Common.{◌≡◌, ℕ, Bool, true, false, not, ◌||◌, ◌&&◌, List, [], ◌∷◌, Option}
-use Rattle.std.proofs.Common.{Some, None, refl, sym, ap, ◌∙◌, bytes_eq, cond}
-use Rattle.op_text.specs.declared.tree.Kind.{Kind}
-use Rattle.op_text.specs.declared.tree.Kind.TheVariants.{Word, Bit}
-use Rattle.op_text.specs.declared.tree.Param.{Param}
-use Rattle.op_text.specs.WordOps.{same_kind}
-use Rattle.op_text.specs.Rules.{is_among, kind_among, is_known, is_of_kind}
-use Rattle.op_text.specs.Spelling.{Each}
+use Rattle.op_rules.proofs.Common.{◌≡◌, ℕ, Bool, true, false, not, ◌||◌, ◌&&◌, List, [], ◌∷◌}
+use Rattle.op_rules.proofs.Common.{Option, Some, None, refl, sym, ap, ◌∙◌, bytes_eq, cond, Kind}
+use Rattle.op_rules.proofs.Common.{Word, Bit, Param, same_kind, is_among, Each, kind_among}
+use Rattle.op_rules.proofs.Common.{is_known, is_of_kind}
 use Rattle.op_rules.specs.Meets.{names_of, IsNew, Differ}
 use Rattle.op_rules.proofs.Names.{is_same, other_way, or_first, or_second, each_both}
 
@@ -28,14 +24,12 @@ of_known (Some j) k = refl
 pub same_kinds : (a b : Kind) → same_kind a b ≡ true → b ≡ a
 same_kinds Word Word h = refl
 same_kinds Bit Bit h = refl
-same_kinds Word Bit h = cc
-same_kinds Bit Word h = cc
+same_kinds _ _ h = cc
 
 pub kinds_same : (j k : Kind) → k ≡ j → same_kind j k ≡ true
 kinds_same Word Word e = refl
 kinds_same Bit Bit e = refl
-kinds_same Word Bit e = cc
-kinds_same Bit Word e = cc
+kinds_same _ _ e = cc
 
 -- a result, if there is one, is of this kind
 abbrev pub Fits : Option Kind → Kind → Type 0
@@ -51,8 +45,7 @@ of_fits (Some i) k f h = kinds_same i k (sym (f i refl))
 
 fits_kind : (a b : Bool) → (a && not b) ≡ false → a ≡ true → b ≡ true
 fits_kind true true h g = refl
-fits_kind true false h g = cc
-fits_kind false b h g = cc
+fits_kind _ _ h g = cc
 
 fits_back : (r b : Bool) → (r ≡ true → b ≡ true) → (r && not b) ≡ false
 fits_back true b f = ap not (f refl)
@@ -69,17 +62,14 @@ fits_same o k f = fits_back (is_known o) (is_of_kind o k) (of_fits o k f)
 -- an assigned name that is no state
 pub word_fits : (o : Option Kind) (s : Bool) → s ≡ false → (is_of_kind o Bit && not s) ≡ false
     → Fits o Word
-word_fits None s z h j e = cc
 word_fits (Some Word) s z h j e = let i : Word ≡ j = cc in sym i
 word_fits (Some Bit) true z h j e = cc
-word_fits (Some Bit) false z h j e = cc
+word_fits _ _ z h j e = cc
 
 pub fits_word : (o : Option Kind) (s : Bool) → (s ≡ false → Fits o Word)
     → (is_of_kind o Bit && not s) ≡ false
-fits_word None s f = refl
-fits_word (Some Word) s f = refl
-fits_word (Some Bit) true f = refl
 fits_word (Some Bit) false f = let e = f refl Bit refl in cc
+fits_word _ _ f = refl
 
 others_apart : (n : List ℕ) (ps : List Param) → IsNew (names_of ps) n
     → Each (λ (p : Param). bytes_eq n p.name ≡ false) ps

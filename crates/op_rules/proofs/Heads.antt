@@ -1,23 +1,15 @@
 -- The head of an op: its name, its sources and its result.
-use Rattle.std.proofs.Common.{◌≡◌, ℕ, ◌+◌, ◌<◌, ◌≤◌, false, nat_le, List, [], ◌∷◌, ◌++◌, length}
-use Rattle.std.specs.Option.{option_to_list}
-use Rattle.std.proofs.Common.{arith, Option, Some, None, refl, sym, ◌∙◌, codes, append_assoc}
-use Rattle.std.proofs.Common.{append-nil}
-use Rattle.std.proofs.lemmas.List.{length-append}
-use Rattle.text_lex.specs.Lexical.{Item}
+use Rattle.op_rules.proofs.Common.{◌≡◌, ℕ, ◌+◌, ◌<◌, ◌≤◌, false, nat_le, List, [], ◌∷◌, ◌++◌}
+use Rattle.op_rules.proofs.Common.{length, option_to_list, arith, Option, Some, None, refl, sym}
+use Rattle.op_rules.proofs.Common.{◌∙◌, codes, append_assoc, append-nil, length-append, Item, Kind}
+use Rattle.op_rules.proofs.Common.{Word, Bit, Param, Wanted, spelling_of, is_among, param}
+use Rattle.op_rules.proofs.Common.{items_spelled, kind_text, between_commas, after_commas}
+use Rattle.op_rules.proofs.Common.{after_comma, param_text, Each, IfThere, HasParam, Scope}
+use Rattle.op_rules.proofs.Common.{breach_of, is_bad, new_word, new_block}
+use Rattle.grammar.specs.Machine as machine
 use Rattle.op_text.specs.declared.fault.OpsKind.TheVariants as why
-use Rattle.op_text.specs.declared.tree.Kind.{Kind}
-use Rattle.op_text.specs.declared.tree.Kind.TheVariants.{Word, Bit}
-use Rattle.op_text.specs.declared.tree.Param.{Param}
-use Rattle.op_text.specs.declared.grammar.Wanted.{Wanted}
-use Rattle.op_text.specs.declared.grammar.Wanted.TheVariants.{NewParam, ParamKind, Params}
-use Rattle.op_text.specs.declared.grammar.Wanted.TheVariants.{NewResult, ResultKind, SecondResult}
-use Rattle.op_text.specs.declared.grammar.Wanted.TheVariants.{Begin, Colon}
-use Rattle.op_text.specs.Items.{spelling_of}
-use Rattle.op_text.specs.Rules.{Scope, breach_of, is_bad, is_among, new_word, new_block}
-use Rattle.op_text.specs.Scratch.{param}
-use Rattle.op_text.specs.Spelling.{items_spelled, kind_text, between_commas, after_commas}
-use Rattle.op_text.specs.Spelling.{after_comma, param_text, Each, IfThere, HasParam}
+use Rattle.op_text.specs.declared.wanted.Wanted.TheVariants.{NewParam, ParamKind, Params, NewResult}
+use Rattle.op_text.specs.declared.wanted.Wanted.TheVariants.{ResultKind, SecondResult, Begin, Colon}
 use Rattle.op_rules.specs.Meets.{IsGood, names_of}
 use Rattle.op_rules.proofs.Names.{AllFresh}
 use Rattle.op_rules.proofs.Tokens.{goes, name_lexeme, named, two_rules, three_rules, not_bad, le_no}
@@ -42,7 +34,7 @@ pub param_kind : (k : Kind) (ops stands : List (List ℕ)) (done : List Param) (
     { naming = Some n }) (items_spelled (codes ":" ∷ kind_text k ∷ rest))
     ≡ breach_of wanted (in_params ops (stands ++ n ∷ []) (done ++ param n k ∷ []))
     (items_spelled rest)
-unfolding breach_of
+unfolding machine.breach_of
 param_kind Word ops stands done n wanted rest = refl
 param_kind Bit ops stands done n wanted rest = refl
 
@@ -58,7 +50,7 @@ param_peels : (ops stands : List (List ℕ)) (done : List Param) (p : Param) (wa
     (rest : List (List ℕ)) → HasParam p
     → breach_of (NewParam ∷ Colon ∷ ParamKind ∷ wanted) (in_params ops stands done)
     (items_spelled (param_text p rest)) ≡ None → OneParam ops stands done p wanted rest
-unfolding breach_of
+unfolding machine.breach_of
 param_peels ops stands done p wanted rest n h =
     let more = codes ":" ∷ kind_text p.kind ∷ rest in
     let s = in_params ops stands done in
@@ -114,7 +106,7 @@ params_after : (ps : List Param) (ops stands : List (List ℕ)) (done : List Par
     → breach_of (Params ∷ wanted) (in_params ops stands done)
     (items_spelled (after_commas param_text ps (codes ")" ∷ rest))) ≡ None
     → AllParams ops stands done ps wanted rest
-unfolding breach_of
+unfolding machine.breach_of
 params_after [] ops stands done wanted rest n l h = record {
   good = tt;
   fresh = tt;
@@ -135,7 +127,7 @@ pub params_peel : (ps : List Param) (ops : List (List ℕ)) (wanted : List Wante
     → breach_of (NewParam ∷ Colon ∷ ParamKind ∷ Params ∷ wanted) (in_params ops [] [])
     (items_spelled (between_commas param_text ps (codes ")" ∷ rest))) ≡ None
     → (1 ≤ length ps) × AllParams ops [] [] ps wanted rest
-unfolding breach_of
+unfolding machine.breach_of
 params_peel [] ops wanted rest n h = cc
 params_peel (p ∷ ps) ops wanted rest n h =
     let more = after_commas param_text ps (codes ")" ∷ rest) in
@@ -152,7 +144,7 @@ pub result_kind_moves : (k : Kind) (ops stands : List (List ℕ)) (done given : 
     (items_spelled (codes ":" ∷ kind_text k ∷ rest))
     ≡ breach_of wanted (in_head ops (stands ++ n ∷ []) done (given ++ param n k ∷ []))
     (items_spelled rest)
-unfolding breach_of
+unfolding machine.breach_of
 result_kind_moves Word ops stands done given n wanted rest = refl
 result_kind_moves Bit ops stands done given n wanted rest = refl
 
@@ -163,7 +155,7 @@ result_peels : (ops stands : List (List ℕ)) (done given : List Param) (p : Par
     → IsGood p.name × (is_among stands p.name ≡ false)
     × (breach_of wanted (in_head ops (stands ++ p.name ∷ []) done (given ++ p ∷ []))
     (items_spelled rest) ≡ None)
-unfolding breach_of
+unfolding machine.breach_of
 result_peels ops stands done given p wanted rest n h =
     let more = codes ":" ∷ kind_text p.kind ∷ rest in
     let s = in_head ops stands done given in
@@ -195,7 +187,7 @@ pub results_peel : (ops stands : List (List ℕ)) (done : List Param) (p : Param
     → breach_of (NewResult ∷ Colon ∷ ResultKind ∷ SecondResult ∷ wanted) (in_params ops stands done)
     (items_spelled (results_text p second rest)) ≡ None
     → AllResults ops stands done (p ∷ option_to_list second) wanted rest
-unfolding breach_of
+unfolding machine.breach_of
 results_peel ops stands done p None wanted rest n m h =
     let a = result_peels ops stands done [] p (SecondResult ∷ wanted) (codes "{" ∷ rest) n h in
     record { good = (a.0, tt); fresh = (a.1, tt); then = a.2 }

@@ -1,27 +1,17 @@
 -- Names hold bits of their kinds.
-use Rattle.std.proofs.Common.{◌≡◌, ℕ, zero, suc, ◌/◌, length, Bool, true, false, not, ◌||◌, cond}
-use Rattle.std.proofs.Common.{List, [], ◌∷◌, ◌++◌, map, fold, replicate, Some, None, Option, refl}
-use Rattle.std.proofs.Common.{sym, ap, ◌∙◌}
-use Rattle.std.proofs.Common.{subst, append_assoc, append-nil, bytes_eq, length-set, arith}
-use Rattle.std.specs.Option.{unwrap_or}
-use Rattle.std.specs.List.{filter, flat_map}
-use Rattle.std.proofs.lemmas.List.{length-replicate}
-use Rattle.op_text.specs.declared.tree.Kind.{Kind}
-use Rattle.op_text.specs.declared.tree.Kind.TheVariants.{Word, Bit}
-use Rattle.op_text.specs.declared.tree.Param.{Param}
-use Rattle.op_text.specs.declared.tree.State.{State}
-use Rattle.op_text.specs.declared.word_ops.WordOp.{WordOp}
-use Rattle.op_text.specs.WordOps.{forms, filled, second_kind}
-use Rattle.op_text.specs.Rules.{is_among, kind_among}
-use Rattle.op_text.specs.Language.{Equation, Block, Statement, Compute, Visit, Operation, results}
+use Rattle.op_rules.proofs.Common.{◌≡◌, ℕ, zero, suc, ◌/◌, length, Bool, true, false, not, ◌||◌}
+use Rattle.op_rules.proofs.Common.{cond, List, [], ◌∷◌, ◌++◌, map, fold, replicate, Some, None}
+use Rattle.op_rules.proofs.Common.{Option, refl, sym, ap, ◌∙◌, subst, append_assoc, append-nil}
+use Rattle.op_rules.proofs.Common.{bytes_eq, length-set, arith, unwrap_or, filter, flat_map}
+use Rattle.op_rules.proofs.Common.{length-replicate, Kind, Word, Bit, Param, State, WordOp, forms}
+use Rattle.op_rules.proofs.Common.{filled, second_kind, is_among, Equation, Block, Statement}
+use Rattle.op_rules.proofs.Common.{Compute, Visit, Operation, results, param, kind_of, result_kind}
+use Rattle.op_rules.proofs.Common.{defines, body_defines, state_names, word_names, Each, kind_among}
 use Rattle.op_text.specs.Values.{bits}
 use Rattle.op_text.specs.Meaning.{NameValue, width, holding, holds_nothing, changed, bit_written}
 use Rattle.op_text.specs.Meaning.{term_bit, assigned, visited, positions, with_blanks, with_states}
 use Rattle.op_text.specs.Meaning.{computed, second_computed, after_statement, after_block}
 use Rattle.op_text.specs.Meaning.{with_sources, after_body}
-use Rattle.op_text.specs.Scratch.{param, kind_of, result_kind, defines, body_defines, state_names}
-use Rattle.op_text.specs.Scratch.{word_names}
-use Rattle.op_text.specs.Spelling.{Each}
 use Rattle.op_rules.specs.Meets.{IsNew, IsKnown, Differ, Context, names_of, targets, next_context}
 use Rattle.op_rules.specs.Meets.{at_start, lets_of, StatementMeets, WordMeets, BodyMeets}
 use Rattle.op_rules.specs.Meets.{OperationMeets}

@@ -1,26 +1,17 @@
 -- The lets and assignments of a block.
-use Rattle.std.proofs.Common.{◌≡◌, ℕ, ◌+◌, ◌<◌, ◌≤◌, Bool, false, not, ◌&&◌, nat_le, List, [], ◌∷◌}
-use Rattle.std.proofs.Common.{◌++◌, map, length, arith, Some, None, refl, sym, ◌∙◌, codes}
-use Rattle.std.proofs.Common.{append_assoc, append-nil}
-use Rattle.std.specs.List.{sum}
-use Rattle.std.proofs.lemmas.List.{length-append}
-use Rattle.std.proofs.lemmas.List.Sums.{sum_by-cons}
-use Rattle.text_lex.specs.Lexical.{Item}
+use Rattle.op_rules.proofs.Common.{◌≡◌, ℕ, ◌+◌, ◌<◌, ◌≤◌, Bool, false, not, ◌&&◌, nat_le, List, []}
+use Rattle.op_rules.proofs.Common.{◌∷◌, ◌++◌, map, length, arith, Some, None, refl, sym, ◌∙◌, codes}
+use Rattle.op_rules.proofs.Common.{append_assoc, append-nil, sum, length-append, sum_by-cons, Item}
+use Rattle.op_rules.proofs.Common.{Spelling, Wanted, spelling_of, let_or_assign, is_among, after}
+use Rattle.op_rules.proofs.Common.{Equation, term_weight, items_spelled, term_text, in_turn}
+use Rattle.op_rules.proofs.Common.{let_text, equation_text, Each, HasEquation, TermMeets, Equals}
+use Rattle.op_rules.proofs.Common.{Scope, breach_of, is_bad, is_taken_target, is_bit_result, step}
+use Rattle.grammar.specs.Machine as machine
 use Rattle.op_text.specs.declared.fault.OpsKind.TheVariants as why
 use Rattle.op_text.specs.declared.terminal.Terminal.TheVariants as t
-use Rattle.op_text.specs.declared.terminal.Spelling.{Spelling}
 use Rattle.op_text.specs.declared.terminal.Spelling.TheVariants as sp
-use Rattle.op_text.specs.declared.grammar.Wanted.{Wanted}
-use Rattle.op_text.specs.declared.grammar.Wanted.TheVariants.{Lets, LetName, LetEnd, AssignEnd}
-use Rattle.op_text.specs.declared.grammar.Wanted.TheVariants.{Assigns, Value, Equals}
-use Rattle.op_text.specs.Items.{spelling_of}
-use Rattle.op_text.specs.Grammar.{let_or_assign}
-use Rattle.op_text.specs.Rules.{Scope, breach_of, is_bad, is_taken_target, is_bit_result, is_among}
-use Rattle.op_text.specs.Rules.{step, after}
-use Rattle.op_text.specs.Language.{Equation}
-use Rattle.op_text.specs.Scratch.{term_weight}
-use Rattle.op_text.specs.Spelling.{items_spelled, term_text, in_turn, let_text, equation_text, Each}
-use Rattle.op_text.specs.Spelling.{HasEquation, TermMeets}
+use Rattle.op_text.specs.declared.wanted.Wanted.TheVariants.{Lets, LetName, LetEnd, AssignEnd}
+use Rattle.op_text.specs.declared.wanted.Wanted.TheVariants.{Assigns, Value}
 use Rattle.op_rules.specs.Meets.{IsGood, LetsRead, can_read}
 use Rattle.op_rules.proofs.Names.{AllFresh, or_first}
 use Rattle.op_rules.proofs.Tokens.{goes, name_lexeme, named, one_rule, two_rules, four_rules}
@@ -73,7 +64,7 @@ let_peels : (s : Scope) (stands states readable : List (List ℕ)) (count weight
     → breach_of (Lets ∷ wanted) (in_lines s stands states readable count [] weight)
     (items_spelled (let_text e rest)) ≡ None
     → OneLet s stands states readable count weight e wanted rest
-unfolding breach_of
+unfolding machine.breach_of
 let_peels s stands states readable count weight e wanted rest n l h =
     let value = codes "=" ∷ term_text e.value (codes ";" ∷ rest) in
     let s1 = in_lines s stands states readable (count + 1) [] weight in
@@ -156,7 +147,7 @@ not_let : (n : Spelling) (s : Scope) (name : List ℕ) (o : Bool) (wanted : List
     → after (step Lets s (t.Name n) name o) (name_lexeme name) (goes wanted (codes "=" ∷ rest))
     ≡ None → after (step Assigns s (t.Name n) name o) (name_lexeme name)
     (goes wanted (codes "=" ∷ rest)) ≡ None
-unfolding breach_of
+unfolding machine.breach_of
 not_let sp.Let s name o wanted rest h =
     let k = one_rule (nat_le 16 s.block.lets) why.TooMany
     (record s { block = record s.block { lets = s.block.lets + 1 } }) (let_or_assign sp.Let)
@@ -193,7 +184,7 @@ assign_peels : (s : Scope) (stands states readable : List (List ℕ)) (lets : �
     (t.Name (spelling_of e.name)) e.name false) (name_lexeme e.name)
     (goes wanted (codes "=" ∷ term_text e.value (codes ";" ∷ rest))) ≡ None
     → OneAssign s stands states readable lets done weight e wanted rest
-unfolding breach_of
+unfolding machine.breach_of
 assign_peels s stands states readable lets done weight e wanted rest n l h =
     let s0 = in_lines s stands states readable lets done weight in
     let s1 = in_lines s stands states readable lets (done ++ e.name ∷ []) weight in
@@ -297,7 +288,7 @@ pub assigns_peel : (es : List Equation) (s : Scope) (stands states readable : Li
     (items_spelled (in_turn equation_text es (codes "}" ∷ rest))) ≡ None
     → (1 ≤ length es) × AllAssigns s stands states readable lets [] weight es wanted (codes "}"
     ∷ rest) P
-unfolding breach_of
+unfolding machine.breach_of
 assigns_peel [] s stands states readable lets weight wanted rest P f n l h = cc
 assigns_peel (e ∷ es) s stands states readable lets weight wanted rest P f n l h =
     let more = in_turn equation_text es (codes "}" ∷ rest) in

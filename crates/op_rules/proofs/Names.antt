@@ -1,10 +1,8 @@
 -- Names among others.
-use Rattle.std.proofs.Common.{◌≡◌, ℕ, Bool, true, false, ◌||◌, List, [], ◌∷◌, ◌++◌, refl, sym, ◌∙◌}
-use Rattle.std.proofs.Common.{bytes_eq}
+use Rattle.op_rules.proofs.Common.{◌≡◌, ℕ, Bool, true, false, ◌||◌, List, [], ◌∷◌, ◌++◌, refl, sym}
+use Rattle.op_rules.proofs.Common.{◌∙◌, bytes_eq, is_among, Each}
 use Rattle.std.proofs.lemmas.List.Folds.{list_any-append}
 use Rattle.std.proofs.lemmas.Slice.Eq.{bytes_eq-Decides}
-use Rattle.op_text.specs.Rules.{is_among}
-use Rattle.op_text.specs.Spelling.{Each}
 use Rattle.op_rules.specs.Meets.{IsNew, Differ}
 
 -- names that are found equal are one

@@ -1,40 +1,29 @@
 -- Ops that break no rule meet the rules.
-use Rattle.std.proofs.Common.{◌≡◌, ℕ, ◌+◌, ◌<◌, ◌≤◌, Bool, true, false, not, ◌||◌, nat_le, List, []}
-use Rattle.std.proofs.Common.{◌∷◌, ◌++◌, map, length, arith, Some, None, refl, sym, ap, ◌∙◌, codes}
-use Rattle.std.proofs.Common.{append_assoc, append-nil, bytes_eq, cond, subst, Option}
-use Rattle.std.specs.List.{list_any}
-use Rattle.std.specs.Option.{unwrap_or}
-use Rattle.std.proofs.lemmas.List.{length-append}
+use Rattle.op_rules.proofs.Common.{◌≡◌, ℕ, ◌+◌, ◌<◌, ◌≤◌, Bool, true, false, not, ◌||◌, nat_le}
+use Rattle.op_rules.proofs.Common.{List, [], ◌∷◌, ◌++◌, map, length, arith, Some, None, refl, sym}
+use Rattle.op_rules.proofs.Common.{ap, ◌∙◌, codes, append_assoc, append-nil, bytes_eq, cond, subst}
+use Rattle.op_rules.proofs.Common.{Option, list_any, unwrap_or, length-append, Kind, Word, Bit}
+use Rattle.op_rules.proofs.Common.{Param, Wanted, spelling_of, is_among, Statement, Compute, Visit}
+use Rattle.op_rules.proofs.Common.{Operation, results, result_names, WordOp, param, defines}
+use Rattle.op_rules.proofs.Common.{body_defines, op_text, second_kind, items_spelled}
+use Rattle.op_rules.proofs.Common.{between_commas, in_turn, name_text, param_text, statement_text}
+use Rattle.op_rules.proofs.Common.{operation_text, MeetRules, Each, HasStatement, HasOperation}
+use Rattle.op_rules.proofs.Common.{Open, Scope, breach_of, is_bad, kind_among, is_known, second_of}
+use Rattle.op_text.specs.declared.wanted.Wanted.TheVariants.{Stmts, Ops, NewOp, NewParam, ParamKind}
+use Rattle.op_text.specs.declared.wanted.Wanted.TheVariants.{Params, Arrow, NewResult, ResultKind}
+use Rattle.op_text.specs.declared.wanted.Wanted.TheVariants.{SecondResult, Colon, FirstStmt}
+use Rattle.grammar.specs.Machine as machine
 use Rattle.op_text.specs.declared.fault.OpsKind.TheVariants as why
-use Rattle.op_text.specs.declared.tree.Kind.{Kind}
-use Rattle.op_text.specs.declared.tree.Kind.TheVariants.{Word, Bit}
-use Rattle.op_text.specs.declared.tree.Param.{Param}
-use Rattle.op_text.specs.declared.grammar.Wanted.{Wanted}
-use Rattle.op_text.specs.declared.grammar.Wanted.TheVariants.{Ops, NewOp, Open, NewParam, ParamKind}
-use Rattle.op_text.specs.declared.grammar.Wanted.TheVariants.{Params, Arrow, NewResult, ResultKind}
-use Rattle.op_text.specs.declared.grammar.Wanted.TheVariants.{SecondResult, Colon, FirstStmt, Stmts}
-use Rattle.op_text.specs.Items.{spelling_of}
-use Rattle.op_text.specs.Rules.{Scope, breach_of, is_bad, is_among, kind_among, is_known}
-use Rattle.op_text.specs.Rules.{second_of}
-use Rattle.op_text.specs.Language.{Statement, Compute, Visit, Operation, results}
-use Rattle.op_text.specs.Language.{result_names}
-use Rattle.op_text.specs.declared.word_ops.WordOp.{WordOp}
-use Rattle.op_text.specs.Scratch.{param, defines, body_defines}
-use Rattle.op_text.specs.WordOps.{op_text, second_kind}
-use Rattle.op_text.specs.Spelling.{items_spelled, between_commas, in_turn, name_text, param_text}
-use Rattle.op_text.specs.Spelling.{statement_text, operation_text, MeetRules, Each, HasStatement}
-use Rattle.op_text.specs.Spelling.{HasOperation}
 use Rattle.op_rules.specs.Meets.{IsNew, IsNewOf, Context, names_of, next_context, StatementMeets}
 use Rattle.op_rules.specs.Meets.{BodyMeets, OperationMeets, OpsMeet, at_start, SecondMeets}
 use Rattle.op_rules.specs.Meets.{IsSecondTarget}
-use Rattle.op_rules.proofs.Names.{AllFresh, same_name, among-append, or_first, or_second}
-use Rattle.op_rules.proofs.Names.{fresh-new, fresh-differ}
+use Rattle.op_rules.proofs.Names.{AllFresh, same_name, among-append, or_first, or_second, fresh-new}
+use Rattle.op_rules.proofs.Names.{fresh-differ}
 use Rattle.op_rules.proofs.Fitting.{known-among, Fits, found_each}
 use Rattle.op_rules.proofs.Tokens.{goes, name_lexeme, named, one_rule, two_rules, not_bad, le_no}
 use Rattle.op_rules.proofs.Tokens.{not_not}
 use Rattle.op_rules.proofs.Standing.{Standing, names-append}
-use Rattle.op_rules.proofs.Words.{at_statement, AfterStatement, word_peels, mark}
-use Rattle.op_rules.proofs.Words.{target_end}
+use Rattle.op_rules.proofs.Words.{at_statement, AfterStatement, word_peels, mark, target_end}
 use Rattle.op_rules.proofs.Blocks.{block_peels}
 use Rattle.op_rules.proofs.Heads.{in_params, params_peel, results_text, results_peel}
 
@@ -81,7 +70,7 @@ body_peels : (body : List Statement) (ops stands : List (List ℕ)) (c : Context
     → count ≤ 16 → breach_of (Stmts ∷ wanted) (at_statement ops stands c count)
     (items_spelled (in_turn statement_text body (codes "}" ∷ rest))) ≡ None
     → WholeBody body ops c count wanted rest
-unfolding breach_of
+unfolding machine.breach_of
 body_peels [] ops stands c count wanted rest n s l h =
     let k = one_rule (list_any (λ (r : Param). not (is_known (kind_among c.known r.name)))
     c.results) why.NoResult (in_params ops [] []) [] (mark (codes "}"))
@@ -112,7 +101,7 @@ pub first_same : (st : Statement) (s : Scope) (wanted : List Wanted) (rest : Lis
     → HasStatement st
     → breach_of (FirstStmt ∷ wanted) s (items_spelled (statement_text st rest))
     ≡ breach_of (Stmts ∷ wanted) s (items_spelled (statement_text st rest))
-unfolding breach_of
+unfolding machine.breach_of
 first_same (Compute target second p args) s wanted rest n =
     let more = target_end second (op_text p ∷ codes "("
     ∷ between_commas name_text args (codes ")" ∷ codes ";" ∷ rest)) in
@@ -126,7 +115,7 @@ first_peels : (body : List Statement) (s : Scope) (wanted : List Wanted) (rest :
     → (1 ≤ length body)
     × (breach_of (Stmts ∷ wanted) s (items_spelled
     (in_turn statement_text body (codes "}" ∷ rest))) ≡ None)
-unfolding breach_of
+unfolding machine.breach_of
 first_peels [] s wanted rest n h = cc
 first_peels (st ∷ body) s wanted rest n h = (
   omega arith,
@@ -225,7 +214,7 @@ record AfterOp (op : Operation) (ops : List (List ℕ)) (rest : List (List ℕ))
 op_peels : (op : Operation) (ops : List (List ℕ)) (rest : List (List ℕ)) → HasOperation op
     → breach_of (Ops ∷ []) (in_params ops [] []) (items_spelled (operation_text op rest)) ≡ None
     → AfterOp op ops rest
-unfolding breach_of
+unfolding machine.breach_of
 op_peels op ops rest n h =
     let body = in_turn statement_text op.body (codes "}" ∷ rest) in
     let head = codes "->" ∷ results_text op.result op.second body in

@@ -1,9 +1,6 @@
 -- What the rule machine keeps of the names of an op.
-use Rattle.std.proofs.Common.{◌≡◌, ℕ, Bool, true, false, not, ◌||◌, ◌&&◌, List, ◌++◌, refl, sym, ap}
-use Rattle.std.proofs.Common.{◌∙◌}
-use Rattle.std.proofs.lemmas.List.{map-append}
-use Rattle.op_text.specs.declared.tree.Param.{Param}
-use Rattle.op_text.specs.Rules.{is_among, kind_among, is_known}
+use Rattle.op_rules.proofs.Common.{◌≡◌, ℕ, Bool, true, false, not, ◌||◌, ◌&&◌, List, ◌++◌, refl}
+use Rattle.op_rules.proofs.Common.{sym, ap, ◌∙◌, map-append, Param, is_among, kind_among, is_known}
 use Rattle.op_rules.specs.Meets.{Context, used, names_of}
 use Rattle.op_rules.proofs.Names.{among-append, or_both}
 use Rattle.op_rules.proofs.Fitting.{known-among}
@@ -28,15 +25,10 @@ given-at {stands} {c} s n h =
     ∙ sym (known-among c.known n)
 
 mixed : (k l r d t : Bool) → (((k || l) || r) || (d || t)) ≡ (((k || d) || (l || t)) || r)
-mixed true l r d t = refl
-mixed false true r true t = refl
-mixed false true r false t = refl
-mixed false false true true t = refl
-mixed false false true false true = refl
 mixed false false true false false = refl
-mixed false false false true t = refl
 mixed false false false false true = refl
-mixed false false false false false = refl
+mixed false true r true t = refl
+mixed _ _ _ _ _ = refl
 
 -- the names of two lists are those of the one and then the other
 pub names-append : (ps qs : List Param) → names_of (ps ++ qs) ≡ names_of ps ++ names_of qs
@@ -78,7 +70,6 @@ pub word_new : (st a r d : Bool) → st ≡ (a || r) → (r ≡ true → a ≡ d
 word_new st a r d e f h = cases a r d f (sym (ap (λ x. x && not (r && not d)) e) ∙ h)
   where
     cases : (a r d : Bool) → (r ≡ true → a ≡ d) → ((a || r) && not (r && not d)) ≡ false → a ≡ false
-    cases false r d f h = refl
-    cases true false d f h = cc
-    cases true true true f h = cc
     cases true true false f h = f refl
+    cases false r d f h = refl
+    cases _ _ _ f h = cc

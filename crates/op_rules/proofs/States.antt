@@ -1,21 +1,16 @@
 -- The states of a block.
-use Rattle.std.proofs.Common.{◌≡◌, ℕ, ◌+◌, ◌<◌, ◌≤◌, Bool, true, false, ◌||◌, ◌&&◌, nat_le, List}
-use Rattle.std.proofs.Common.{[], ◌∷◌, ◌++◌, map, length, arith, Some, None, refl, sym, ap, ◌∙◌}
-use Rattle.std.proofs.Common.{codes, subst, append_assoc, append-nil, cond}
-use Rattle.std.proofs.lemmas.List.{length-append}
+use Rattle.op_rules.proofs.Common.{◌≡◌, ℕ, ◌+◌, ◌<◌, ◌≤◌, Bool, true, false, ◌||◌, ◌&&◌, nat_le}
+use Rattle.op_rules.proofs.Common.{List, [], ◌∷◌, ◌++◌, map, length, arith, Some, None, refl, sym}
+use Rattle.op_rules.proofs.Common.{ap, ◌∙◌, codes, subst, append_assoc, append-nil, cond}
+use Rattle.op_rules.proofs.Common.{length-append, Item, Bit, State, Wanted, spelling_of, is_among}
+use Rattle.op_rules.proofs.Common.{after, items_spelled, start_text, between_commas, after_commas}
+use Rattle.op_rules.proofs.Common.{state_text, Each, HasState, Equals, Scope, breach_of, is_bad}
+use Rattle.op_rules.proofs.Common.{is_taken_state, step, with_rules, state_rules, kind_among}
+use Rattle.op_rules.proofs.Common.{is_known, is_of_kind}
+use Rattle.op_text.specs.declared.wanted.Wanted.TheVariants.{States, StateName, Start, MoreStates}
+use Rattle.grammar.specs.Machine as machine
 use Rattle.op_text.specs.declared.terminal.Terminal.TheVariants as t
-use Rattle.text_lex.specs.Lexical.{Item}
 use Rattle.op_text.specs.declared.fault.OpsKind.TheVariants as why
-use Rattle.op_text.specs.declared.tree.Kind.TheVariants.{Bit}
-use Rattle.op_text.specs.declared.tree.State.{State}
-use Rattle.op_text.specs.declared.grammar.Wanted.{Wanted}
-use Rattle.op_text.specs.declared.grammar.Wanted.TheVariants.{States, StateName, Start, MoreStates}
-use Rattle.op_text.specs.declared.grammar.Wanted.TheVariants.{Equals}
-use Rattle.op_text.specs.Items.{spelling_of}
-use Rattle.op_text.specs.Rules.{Scope, breach_of, is_bad, is_taken_state, is_among, step, after}
-use Rattle.op_text.specs.Rules.{with_rules, state_rules, kind_among, is_known, is_of_kind}
-use Rattle.op_text.specs.Spelling.{items_spelled, start_text, between_commas, after_commas}
-use Rattle.op_text.specs.Spelling.{state_text, Each, HasState}
 use Rattle.op_rules.specs.Meets.{Context, IsNewOf, IsNew, used}
 use Rattle.op_rules.proofs.Names.{AllFresh, among-append}
 use Rattle.op_rules.proofs.Tokens.{goes, name_lexeme, named, three_rules, not_bad, le_no}
@@ -46,14 +41,10 @@ state_new st a r b d m e f h = cases a r b d m f (sym (ap (cond (r && b) (d || m
   where
     cases : (a r b d m : Bool) → (r ≡ true → a ≡ d) → cond (r && b) (d || m) ((a || r) || m) ≡ false
         → (a ≡ false) × (m ≡ false) × (r ≡ true → b ≡ true)
-    cases a true true true m f h = cc
-    cases a true true false true f h = cc
     cases a true true false false f h = (f refl, refl, λ q. refl)
     cases true true false d m f h = cc
-    cases false true false d m f h = cc
-    cases true false b d m f h = cc
-    cases false false b d true f h = cc
     cases false false b d false f h = (refl, refl, λ q. cc)
+    cases _ _ _ _ _ f h = cc
 
 -- the context of a block, and the scope before it
 abbrev pub before_block : List (List ℕ) → List (List ℕ) → Context → ℕ → Scope
@@ -76,7 +67,7 @@ state_moves s stands done n wanted items h =
 pub start_moves : (b : Bool) (s : Scope) (wanted : List Wanted) (rest : List (List ℕ))
     → breach_of (Equals ∷ Start ∷ wanted) s (items_spelled (codes "=" ∷ start_text b ∷ rest))
     ≡ breach_of wanted s (items_spelled rest)
-unfolding breach_of
+unfolding machine.breach_of
 start_moves false s wanted rest = refl
 start_moves true s wanted rest = refl
 
@@ -157,7 +148,7 @@ states_after : (ss : List State) (ops stands : List (List ℕ)) (c : Context)
     → breach_of (MoreStates ∷ wanted) (in_states (before_block ops stands c count) stands
     done) (items_spelled (after_commas state_text ss (codes ")" ∷ rest))) ≡ None
     → AllStates ops stands c count done ss wanted rest
-unfolding breach_of
+unfolding machine.breach_of
 states_after [] ops stands c count done wanted rest n st l h =
     record {
       are = tt;
@@ -190,7 +181,7 @@ pub states_peel : (ss : List State) (ops stands : List (List ℕ)) (c : Context)
     → breach_of (States ∷ wanted) (in_states (before_block ops stands c count) stands [])
     (items_spelled (between_commas state_text ss (codes ")" ∷ rest))) ≡ None
     → AllStates ops stands c count [] ss wanted rest
-unfolding breach_of
+unfolding machine.breach_of
 states_peel [] ops stands c count wanted rest n st h =
     record { are = tt; fresh = tt; few = omega arith; then = h }
 states_peel (s ∷ ss) ops stands c count wanted rest n st h =

@@ -1,22 +1,18 @@
 -- An expression that breaks no rule meets the rules.
-use Rattle.std.proofs.Common.{◌≡◌, ℕ, zero, suc, ◌+◌, ◌-◌, ◌<◌, ◌≤◌, length, arith, Bool, true}
-use Rattle.std.proofs.Common.{false, not, ◌||◌, nat_lt, nat_le, List, [], ◌∷◌, Some, None, Ok, refl}
-use Rattle.std.proofs.Common.{sym, ◌∙◌, codes, subst}
-use Rattle.text_lex.specs.Lexical.{Item, Lexeme}
+use Rattle.op_rules.proofs.Common.{◌≡◌, ℕ, zero, suc, ◌+◌, ◌-◌, ◌<◌, ◌≤◌, length, arith, Bool, true}
+use Rattle.op_rules.proofs.Common.{false, not, ◌||◌, nat_lt, nat_le, List, [], ◌∷◌, Some, None, Ok}
+use Rattle.op_rules.proofs.Common.{refl, sym, ◌∙◌, codes, subst, Item, Lexeme, Wanted, opens}
+use Rattle.op_rules.proofs.Common.{spelling_of, terminal_of, is_opening, after, Term, Nought, Unity}
+use Rattle.op_rules.proofs.Common.{Named, Negation, Conjunction, Disjunction, Parity, Majority}
+use Rattle.op_rules.proofs.Common.{term_weight, is_good, term_text, items_spelled, kind_of_text}
+use Rattle.op_rules.proofs.Common.{TermMeets, HasNames, Scope, gate_arguments, gate_weight, is_bad}
+use Rattle.op_rules.proofs.Common.{is_readable, breach_of, with_rules, unless, step}
+use Rattle.grammar.specs.Machine as machine
 use Rattle.op_text.specs.declared.fault.OpsKind.TheVariants as why
 use Rattle.op_text.specs.declared.terminal.Terminal.TheVariants as t
 use Rattle.op_text.specs.declared.gate.Gate.{Gate}
 use Rattle.op_text.specs.declared.gate.Gate.TheVariants as gates
-use Rattle.op_text.specs.declared.grammar.Wanted.{Wanted}
-use Rattle.op_text.specs.declared.grammar.Wanted.TheVariants.{Value, GateOpen, More}
-use Rattle.op_text.specs.Items.{opens, spelling_of, terminal_of, is_opening}
-use Rattle.op_text.specs.Rules.{Scope, gate_arguments, gate_weight, is_bad, is_readable, breach_of}
-use Rattle.op_text.specs.Rules.{after, with_rules, unless, step}
-use Rattle.op_text.specs.Language.{Term, Nought, Unity, Named, Negation, Conjunction, Disjunction}
-use Rattle.op_text.specs.Language.{Parity, Majority}
-use Rattle.op_text.specs.Scratch.{term_weight}
-use Rattle.op_text.specs.Spelling.{is_good, term_text, items_spelled, heavier, kind_of_text}
-use Rattle.op_text.specs.Spelling.{TermMeets, HasNames}
+use Rattle.op_text.specs.declared.wanted.Wanted.TheVariants.{Value, GateOpen, More}
 use Rattle.op_rules.proofs.Names.{or_first, or_second}
 use Rattle.op_rules.proofs.Tokens.{goes, name_lexeme, named, one_rule, two_rules, not_bad, le_no}
 use Rattle.op_rules.proofs.Tokens.{lt_no, not_not}
@@ -29,6 +25,10 @@ opens_next (text ∷ rest) = is_opening (terminal_of (kind_of_text text) text)
 pub opens_same : (rest : List (List ℕ)) → opens (items_spelled rest) ≡ opens_next rest
 opens_same [] = refl
 opens_same (x ∷ rest) = refl
+
+-- the scope of a block whose gates weigh so much more
+abbrev pub heavier : Scope → ℕ → Scope
+heavier s w = record s { block = record s.block { weight = s.block.weight + w } }
 
 -- what stands after an expression, and that it is light enough
 pub record AfterTerm (e : Term) (s : Scope) (depth : ℕ) (wanted : List Wanted)
@@ -88,7 +88,7 @@ gate_rule : (s : Scope) (depth : ℕ) (g : Gate) (wanted : List Wanted) (rest : 
     + gate_weight g)))))
     (gate_lexeme g) (goes wanted (codes "(" ∷ rest)) ≡ None
     → InGate s depth (gate_arguments g) (gate_weight g) wanted rest
-unfolding breach_of
+unfolding machine.breach_of
 gate_rule s depth g wanted rest e h =
     let k =
     one_rule (nat_lt 24 (s.block.weight + gate_weight g) || nat_le 32 (length s.block.missing))
@@ -101,7 +101,7 @@ gate_peels : (s : Scope) (depth : ℕ) (g : Gate) (wanted : List Wanted) (rest :
     → length s.block.missing ≡ depth
     → breach_of (Value ∷ wanted) s (items_spelled (gate_text g ∷ codes "(" ∷ rest)) ≡ None
     → InGate s depth (gate_arguments g) (gate_weight g) wanted rest
-unfolding breach_of
+unfolding machine.breach_of
 gate_peels s depth gates.Not wanted rest e h = gate_rule s depth gates.Not wanted rest e h
 gate_peels s depth gates.And wanted rest e h = gate_rule s depth gates.And wanted rest e h
 gate_peels s depth gates.Or wanted rest e h = gate_rule s depth gates.Or wanted rest e h
@@ -114,13 +114,13 @@ comma_peels : (s : Scope) (n : ℕ) (outer : List ℕ) (w : ℕ) (wanted : List 
     → breach_of (More ∷ wanted) (weighing s (suc n ∷ outer) w) (items_spelled (codes "," ∷ rest))
     ≡ None → breach_of (Value ∷ More ∷ wanted) (weighing s (n ∷ outer) w) (items_spelled rest)
     ≡ None
-unfolding breach_of
+unfolding machine.breach_of
 comma_peels s n outer w wanted rest h = h
 
 close_peels : (s : Scope) (outer : List ℕ) (w : ℕ) (wanted : List Wanted) (rest : List (List ℕ))
     → breach_of (More ∷ wanted) (weighing s (zero ∷ outer) w) (items_spelled (codes ")" ∷ rest))
     ≡ None → breach_of wanted (weighing s outer w) (items_spelled rest) ≡ None
-unfolding breach_of
+unfolding machine.breach_of
 close_peels s outer w wanted rest h = h
 
 name_peels : (s : Scope) (name : List ℕ) (wanted : List Wanted) (rest : List (List ℕ)) (o : Bool)
@@ -139,7 +139,7 @@ pub term_peels : (e : Term) (s : Scope) (depth : ℕ) (wanted : List Wanted) (re
     → HasNames e → opens_next rest ≡ false → length s.block.missing ≡ depth
     → s.block.weight ≤ 24 → breach_of (Value ∷ wanted) s (items_spelled (term_text e rest)) ≡ None
     → AfterTerm e s depth wanted rest
-unfolding breach_of
+unfolding machine.breach_of
 term_peels Nought s depth wanted rest n o d k h =
     record {
       meets = tt;

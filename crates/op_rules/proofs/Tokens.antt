@@ -1,16 +1,14 @@
 -- One token at a time, where no rule is broken.
-use Rattle.std.proofs.Common.{◌≡◌, ℕ, Bool, true, false, not, ◌&&◌, List, ◌∷◌, ◌++◌, Option, Some}
-use Rattle.std.proofs.Common.{None, Result, Ok, refl, ap, nat_le, length, nat_lt, ◌<◌, ◌≤◌, arith}
-use Rattle.text_lex.specs.Lexical.{Lexeme, Whole, is_token}
+use Rattle.op_rules.proofs.Common.{◌≡◌, ℕ, Bool, true, false, not, ◌&&◌, List, ◌∷◌, ◌++◌, Option}
+use Rattle.op_rules.proofs.Common.{Some, None, Result, Ok, refl, ap, nat_le, length, nat_lt, ◌<◌}
+use Rattle.op_rules.proofs.Common.{◌≤◌, arith, Lexeme, Whole, is_token, Breach, Wanted, opens}
+use Rattle.op_rules.proofs.Common.{spelling_of, after, is_good, kind_of_text, items_spelled, Scope}
+use Rattle.op_rules.proofs.Common.{step, breach_of, unless, with_rules, is_bad, is_plain}
 use Rattle.text_lex.specs.Spelled.{fits_name}
 use Rattle.text_lex.specs.declared.token.TokenKind.TheVariants as kinds
+use Rattle.grammar.specs.Machine as machine
 use Rattle.op_text.specs.declared.fault.OpsKind.{OpsKind}
-use Rattle.op_text.specs.declared.fault.Breach.{Breach}
 use Rattle.op_text.specs.declared.terminal.Terminal.TheVariants as t
-use Rattle.op_text.specs.declared.grammar.Wanted.{Wanted}
-use Rattle.op_text.specs.Items.{opens, spelling_of}
-use Rattle.op_text.specs.Rules.{Scope, step, after, breach_of, unless, with_rules, is_bad, is_plain}
-use Rattle.op_text.specs.Spelling.{is_good, kind_of_text, items_spelled}
 
 -- what stands after a token
 abbrev pub Following : Type 0
@@ -35,7 +33,7 @@ pub named : (w : Wanted) (wanted : List Wanted) (s : Scope) (n : List ℕ) (rest
     → breach_of (w ∷ wanted) s (items_spelled (n ∷ rest))
     ≡ after (step w s (t.Name (spelling_of n)) n (opens (items_spelled rest))) (name_lexeme n)
     (goes wanted rest)
-unfolding breach_of
+unfolding machine.breach_of
 named w wanted s n rest h =
     ap (λ k. breach_of (w ∷ wanted) s (Whole (record { kind = k; text = n; start = 0 })
     ∷ items_spelled rest)) (name_kind n h)
@@ -57,33 +55,26 @@ pub two_rules : (a b : Bool) (i j : OpsKind) (r : Scope) (f : List Wanted) (u : 
     (go : Following)
     → after (with_rules (Some f) (unless a i (unless b j (Ok r)))) u go ≡ None
     → (a ≡ false) × (b ≡ false) × (go f r ≡ None)
-two_rules true b i j r f u go h = cc
-two_rules false true i j r f u go h = cc
 two_rules false false i j r f u go h = (refl, refl, h)
+two_rules _ _ i j r f u go h = cc
 
 pub three_rules : (a b c : Bool) (i j k : OpsKind) (r : Scope) (f : List Wanted) (u : Lexeme)
     (go : Following)
     → after (with_rules (Some f) (unless a i (unless b j (unless c k (Ok r))))) u go ≡ None
     → (a ≡ false) × (b ≡ false) × (c ≡ false) × (go f r ≡ None)
-three_rules true b c i j k r f u go h = cc
-three_rules false true c i j k r f u go h = cc
-three_rules false false true i j k r f u go h = cc
 three_rules false false false i j k r f u go h = (refl, refl, refl, h)
+three_rules _ _ _ i j k r f u go h = cc
 
 pub four_rules : (a b c d : Bool) (i j k l : OpsKind) (r : Scope) (f : List Wanted) (u : Lexeme)
     (go : Following)
     → after (with_rules (Some f) (unless a i (unless b j (unless c k (unless d l (Ok r)))))) u go
     ≡ None → (a ≡ false) × (b ≡ false) × (c ≡ false) × (d ≡ false) × (go f r ≡ None)
-four_rules true b c d i j k l r f u go h = cc
-four_rules false true c d i j k l r f u go h = cc
-four_rules false false true d i j k l r f u go h = cc
-four_rules false false false true i j k l r f u go h = cc
 four_rules false false false false i j k l r f u go h = (refl, refl, refl, refl, h)
+four_rules _ _ _ _ i j k l r f u go h = cc
 
 good_is : (p f : Bool) → not (p && f) ≡ false → (f && p) ≡ true
 good_is true true h = refl
-good_is true false h = cc
-good_is false f h = cc
+good_is _ _ h = cc
 
 pub not_not : (b : Bool) → not b ≡ false → b ≡ true
 not_not true h = refl

@@ -1,44 +1,32 @@
 -- A word statement that breaks no rule meets the rules.
-use Rattle.std.proofs.Common.{◌≡◌, ℕ, ◌+◌, ◌<◌, Bool, true, false, not, ◌||◌, nat_le, List}
-use Rattle.std.proofs.Common.{[], ◌∷◌, ◌++◌, map, Option, Some, None, refl, sym, ap, ◌∙◌, codes}
-use Rattle.std.proofs.Common.{subst, append_assoc, append-nil, bytes_eq}
-use Rattle.std.specs.Option.{unwrap_or}
-use Rattle.std.specs.List.{list_any}
-use Rattle.text_lex.specs.Lexical.{Item, Lexeme}
+use Rattle.op_rules.proofs.Common.{◌≡◌, ℕ, ◌+◌, ◌<◌, Bool, true, false, not, ◌||◌, nat_le, List, []}
+use Rattle.op_rules.proofs.Common.{◌∷◌, ◌++◌, map, Option, Some, None, refl, sym, ap, ◌∙◌, codes}
+use Rattle.op_rules.proofs.Common.{subst, append_assoc, append-nil, bytes_eq, unwrap_or, list_any}
+use Rattle.op_rules.proofs.Common.{Item, Lexeme, Spelling, Kind, Word, Param, WordOp, Wanted}
+use Rattle.op_rules.proofs.Common.{statement, spelling_of, op_text, forms, filled, lacks, is_part}
+use Rattle.op_rules.proofs.Common.{is_whole, is_begun, given_first, first_of, second_kind, after}
+use Rattle.op_rules.proofs.Common.{is_among, Statement, Compute, kind_of, result_kind, param}
+use Rattle.op_rules.proofs.Common.{defines, items_spelled, after_comma, between_commas}
+use Rattle.op_rules.proofs.Common.{after_commas, name_text, statement_text, Each, IfThere, IsName}
+use Rattle.op_rules.proofs.Common.{HasStatement, Open, Equals, Scope, breach_of, with_rules, is_bad}
+use Rattle.op_rules.proofs.Common.{is_taken_name, is_called, kind_among, is_known, has_targets}
+use Rattle.op_rules.proofs.Common.{known_op, statement_rules, argument_of_kind, gives_kind}
+use Rattle.op_rules.proofs.Common.{is_other_result, second_of, new_word, new_block}
+use Rattle.op_text.specs.declared.wanted.Wanted.TheVariants.{Stmts, WordOpName, Args, ArgName}
+use Rattle.op_text.specs.declared.wanted.Wanted.TheVariants.{MoreArgs, WordEnd, Direction}
+use Rattle.op_text.specs.declared.wanted.Wanted.TheVariants.{SecondTarget, NewTarget}
 use Rattle.text_lex.specs.declared.token.TokenKind.TheVariants as kinds
+use Rattle.grammar.specs.Machine as machine
 use Rattle.op_text.specs.declared.fault.OpsKind.TheVariants as why
-use Rattle.op_text.specs.declared.terminal.Spelling.{Spelling}
 use Rattle.op_text.specs.declared.terminal.Spelling.TheVariants as sp
-use Rattle.op_text.specs.declared.tree.Kind.{Kind}
-use Rattle.op_text.specs.declared.tree.Kind.TheVariants.{Word}
-use Rattle.op_text.specs.declared.tree.Param.{Param}
-use Rattle.op_text.specs.declared.word_ops.WordOp.{WordOp}
 use Rattle.op_text.specs.declared.word_ops.WordOp.TheVariants as o
-use Rattle.op_text.specs.declared.grammar.Wanted.{Wanted}
-use Rattle.op_text.specs.declared.grammar.Wanted.TheVariants.{Stmts, WordOpName, Open, Args}
-use Rattle.op_text.specs.declared.grammar.Wanted.TheVariants.{ArgName, MoreArgs, WordEnd, Direction}
-use Rattle.op_text.specs.declared.grammar.Wanted.TheVariants.{SecondTarget, NewTarget, Equals}
-use Rattle.op_text.specs.Grammar.{statement}
-use Rattle.op_text.specs.Items.{spelling_of}
-use Rattle.op_text.specs.WordOps.{op_text, forms, filled, lacks, is_part, is_whole, is_begun}
-use Rattle.op_text.specs.WordOps.{given_first, first_of, second_kind}
-use Rattle.op_text.specs.Rules.{Scope, breach_of, after, with_rules, is_bad, is_taken_name}
-use Rattle.op_text.specs.Rules.{is_called, is_among, kind_among, is_known, has_targets, known_op}
-use Rattle.op_text.specs.Rules.{statement_rules, argument_of_kind, gives_kind, is_other_result}
-use Rattle.op_text.specs.Rules.{second_of, new_word, new_block}
-use Rattle.op_text.specs.Language.{Statement, Compute}
-use Rattle.op_text.specs.Scratch.{kind_of, result_kind, param, defines}
-use Rattle.op_text.specs.Spelling.{items_spelled, after_comma, between_commas, after_commas}
-use Rattle.op_text.specs.Spelling.{name_text, statement_text, Each, IfThere, IsName, HasStatement}
 use Rattle.op_text.proofs.Operations.{first_settles}
 use Rattle.op_rules.specs.Meets.{Context, IsKnown, IsNew, SecondMeets, StatementMeets, next_context}
-use Rattle.op_rules.specs.Meets.{used}
-use Rattle.op_rules.specs.Meets.{names_of}
+use Rattle.op_rules.specs.Meets.{used, names_of}
 use Rattle.op_rules.proofs.Names.{among-append, or_first, or_second}
 use Rattle.op_rules.proofs.Fitting.{same_fits}
 use Rattle.op_rules.proofs.Tokens.{Following, goes, name_lexeme, named, one_rule, two_rules}
-use Rattle.op_rules.proofs.Tokens.{next_rule}
-use Rattle.op_rules.proofs.Tokens.{three_rules, not_bad, not_not, le_no}
+use Rattle.op_rules.proofs.Tokens.{next_rule, three_rules, not_bad, not_not, le_no}
 use Rattle.op_rules.proofs.Standing.{Standing, given-at, standing-more, word_new, more_context}
 
 abbrev pub mark : List ℕ → Lexeme
@@ -64,7 +52,7 @@ record AfterTarget (n : Spelling) (s : Scope) (target : List ℕ) (wanted : List
 no_block : (second : Option (List ℕ)) (s : Scope) (wanted : List Wanted) (rest : List (List ℕ))
     → IfThere IsName second
     → breach_of (Direction ∷ wanted) s (items_spelled (target_end second rest)) ≡ None → ⊥
-unfolding breach_of
+unfolding machine.breach_of
 no_block None s wanted rest n h = cc
 no_block (Some name) s wanted rest n h = cc
 
@@ -85,12 +73,7 @@ target_peels sp.Serial s target second wanted rest m h =
     (record s { op = record s.op { statements = s.op.statements + 1 }; block = new_block })
     (statement sp.Serial) (name_lexeme target) (goes wanted (target_end second rest)) h in
     absurd (no_block second _ _ rest m k.1)
-target_peels sp.Op s target second wanted rest m h = cc
-target_peels sp.Word s target second wanted rest m h = cc
-target_peels sp.Bit s target second wanted rest m h = cc
-target_peels sp.Up s target second wanted rest m h = cc
-target_peels sp.Down s target second wanted rest m h = cc
-target_peels sp.Let s target second wanted rest m h = cc
+target_peels _ s target second wanted rest m h = cc
 
 -- the scope in a word statement
 abbrev pub in_word : Scope → Option (List ℕ) → WordOp → List Kind → Scope
@@ -109,7 +92,7 @@ second_peels : (second : Option (List ℕ)) (s : Scope) (wanted : List Wanted)
     (items_spelled (target_end second rest)) ≡ None
     → IfThere (SecondFacts s) second
     × (breach_of wanted (in_word s second o.Not []) (items_spelled rest) ≡ None)
-unfolding breach_of
+unfolding machine.breach_of
 second_peels None s wanted rest m h = (tt, h)
 second_peels (Some n) s wanted rest m h =
     let more = codes "=" ∷ rest in
@@ -125,7 +108,7 @@ pub operation_goes : (p : WordOp) (s : Scope) (wanted : List Wanted) (rest : Lis
     → breach_of (WordOpName ∷ wanted) s (items_spelled (op_text p ∷ rest))
     ≡ after (with_rules (Some []) (known_op s (Some p))) (name_lexeme (op_text p))
     (goes wanted rest)
-unfolding breach_of
+unfolding machine.breach_of
 operation_goes o.Not s wanted rest = refl
 operation_goes p s wanted rest = refl
 
@@ -135,7 +118,7 @@ operation_peels : (p : WordOp) (s : Scope) (second : Option (List ℕ)) (wanted 
     (items_spelled (op_text p ∷ codes "(" ∷ rest)) ≡ None
     → (has_targets second (second_kind p) ≡ true)
     × (breach_of wanted (in_word s second p []) (items_spelled rest) ≡ None)
-unfolding breach_of
+unfolding machine.breach_of
 operation_peels p s second wanted rest h =
     let k = one_rule (not (has_targets second (second_kind p))) why.Kind (in_word s second p []) []
     (name_lexeme (op_text p)) (goes (Open ∷ wanted) (codes "(" ∷ rest))
@@ -173,7 +156,7 @@ args_after : (args : List (List ℕ)) (s : Scope) (given : List Kind) (wanted : 
     → breach_of (MoreArgs ∷ wanted) (with_given s given)
     (items_spelled (after_commas name_text args (codes ")" ∷ rest))) ≡ None
     → AllArgs s given args wanted rest
-unfolding breach_of
+unfolding machine.breach_of
 args_after [] s given wanted rest n h =
     let k = one_rule (not (list_any (λ f. is_whole (lacks given f.takes)) (forms s.word.operation)))
     why.Kind (with_given s given) [] (mark (codes ")")) (goes wanted rest) h in
@@ -206,7 +189,7 @@ args_peel : (args : List (List ℕ)) (s : Scope) (wanted : List Wanted) (rest : 
     → breach_of (Args ∷ wanted) (with_given s [])
     (items_spelled (between_commas name_text args (codes ")" ∷ rest))) ≡ None
     → AllArgs s [] args wanted rest
-unfolding breach_of
+unfolding machine.breach_of
 args_peel [] s wanted rest n h =
     let k = one_rule (not (list_any (λ f. is_whole (lacks [] f.takes)) (forms s.word.operation)))
     why.Kind (with_given s []) [] (mark (codes ")")) (goes wanted rest) h in
@@ -270,9 +253,8 @@ pub record AfterStatement (st : Statement) (ops : List (List ℕ)) (c : Context)
       (items_spelled rest) ≡ None
 
 or_nothing : (a b : Bool) → (a || b) ≡ (a || (b || false))
-or_nothing true b = refl
 or_nothing false true = refl
-or_nothing false false = refl
+or_nothing _ _ = refl
 
 pub word_standing : {stands : List (List ℕ)} {c : Context} → Standing stands c → (ds : List Param)
     → Standing (stands ++ names_of ds) (more_context c ds [])
@@ -338,7 +320,7 @@ pub word_peels : (target : List ℕ) (second : Option (List ℕ)) (p : WordOp) (
     → breach_of (Stmts ∷ wanted) (at_statement ops stands c count)
     (items_spelled (statement_text (Compute target second p args) rest)) ≡ None
     → AfterStatement (Compute target second p args) ops c count wanted rest
-unfolding breach_of
+unfolding machine.breach_of
 word_peels target second p args ops stands c count wanted rest n standing h =
     let s = at_statement ops stands c count in
     let list = between_commas name_text args (codes ")" ∷ codes ";" ∷ rest) in

@@ -1,89 +1,38 @@
 -- The grammar's steps allow tokens exactly where a text of the grammar starts with them.
 use Rattle.std.proofs.Common.{◌≡◌, Bool, true, false, ◌&&◌, List, [], ◌∷◌, ◌++◌, length, Option}
-use Rattle.std.proofs.Common.{Some, None, option_and_then, refl, sym, ap, ◌∙◌, arith, IsSome}
+use Rattle.std.proofs.Common.{Some, None, refl, ap, ◌∙◌, arith, subst}
 use Rattle.op_text.specs.declared.terminal.Terminal.{Terminal}
 use Rattle.op_text.specs.declared.terminal.Terminal.TheVariants as t
 use Rattle.op_text.specs.declared.terminal.Spelling.{Spelling}
 use Rattle.op_text.specs.declared.terminal.Spelling.TheVariants as sp
 use Rattle.op_text.specs.Items.{is_opening}
-use Rattle.op_text.specs.declared.grammar.Wanted.{Wanted}
-use Rattle.op_text.specs.declared.grammar.Wanted.TheVariants.{Ops, NewOp, NewParam, ParamKind}
-use Rattle.op_text.specs.declared.grammar.Wanted.TheVariants.{Params, NewResult, ResultKind}
-use Rattle.op_text.specs.declared.grammar.Wanted.TheVariants.{FirstStmt, Stmts, WordOpName, Args}
-use Rattle.op_text.specs.declared.grammar.Wanted.TheVariants.{ArgName, MoreArgs, WordEnd, Direction}
-use Rattle.op_text.specs.declared.grammar.Wanted.TheVariants.{States, StateName, MoreStates, Start}
-use Rattle.op_text.specs.declared.grammar.Wanted.TheVariants.{Lets, LetName, LetEnd, AssignEnd}
-use Rattle.op_text.specs.declared.grammar.Wanted.TheVariants.{Assigns, Value, GateOpen, More, Open}
-use Rattle.op_text.specs.declared.grammar.Wanted.TheVariants.{Begin, Colon, Arrow, Equals}
-use Rattle.op_text.specs.declared.grammar.Wanted.TheVariants.{SecondResult, SecondTarget}
-use Rattle.op_text.specs.declared.grammar.Wanted.TheVariants.{NewTarget}
-use Rattle.op_text.specs.Grammar.{follow, statement, let_or_assign, allowed, opens_terminal}
-use Rattle.op_text.specs.Trees.{text_of, IsViable, IsTheGrammar}
+use Rattle.op_text.specs.declared.wanted.Wanted.{Wanted}
+use Rattle.op_text.specs.declared.wanted.Wanted.TheVariants.{Ops, NewOp, NewParam, ParamKind}
+use Rattle.op_text.specs.declared.wanted.Wanted.TheVariants.{Params, NewResult, ResultKind}
+use Rattle.op_text.specs.declared.wanted.Wanted.TheVariants.{FirstStmt, Stmts, WordOpName, Args}
+use Rattle.op_text.specs.declared.wanted.Wanted.TheVariants.{ArgName, MoreArgs, WordEnd, Direction}
+use Rattle.op_text.specs.declared.wanted.Wanted.TheVariants.{States, StateName, MoreStates, Start}
+use Rattle.op_text.specs.declared.wanted.Wanted.TheVariants.{Lets, LetName, LetEnd, AssignEnd}
+use Rattle.op_text.specs.declared.wanted.Wanted.TheVariants.{Assigns, Value, GateOpen, More, Open}
+use Rattle.op_text.specs.declared.wanted.Wanted.TheVariants.{Begin, Colon, Arrow, Equals}
+use Rattle.op_text.specs.declared.wanted.Wanted.TheVariants.{SecondResult, SecondTarget}
+use Rattle.op_text.specs.declared.wanted.Wanted.TheVariants.{NewTarget}
+use Rattle.grammar.specs.Machine as machine
+use Rattle.grammar.specs.Laws.{IsAccepted, IsTheGrammar}
+use Rattle.grammar.proofs.Complete.{Completes, is_the_grammar, stack_is_fine}
+use Rattle.grammar.proofs.Found.{IsAlike}
+use Rattle.op_text.specs.Grammar.{follow, statement, let_or_assign}
+use Rattle.op_text.specs.Rules.{operation_texts}
+use Rattle.op_text.specs.Trees.{IsText}
+use Rattle.op_text.proofs.Allowed.{allowed, opens_terminal}
 use Rattle.op_text.proofs.Forward.{text_runs}
 use Rattle.op_text.proofs.Back.{text_back}
 
--- Where tokens are refused, they are refused whatever follows.
-pub flagless : (want : Wanted) (u : Terminal) (o : Bool) → follow want u false ≡ None
-    → follow want u o ≡ None
-flagless Value (t.Name n) o h = cc
-flagless Ops t.Zero o h = h
-flagless NewOp t.Zero o h = h
-flagless NewParam t.Zero o h = h
-flagless ParamKind t.Zero o h = h
-flagless Params t.Zero o h = h
-flagless NewResult t.Zero o h = h
-flagless ResultKind t.Zero o h = h
-flagless FirstStmt t.Zero o h = h
-flagless Stmts t.Zero o h = h
-flagless SecondResult t.Zero o h = h
-flagless SecondTarget t.Zero o h = h
-flagless NewTarget t.Zero o h = h
-flagless WordOpName t.Zero o h = h
-flagless Args t.Zero o h = h
-flagless ArgName t.Zero o h = h
-flagless MoreArgs t.Zero o h = h
-flagless WordEnd t.Zero o h = h
-flagless Direction t.Zero o h = h
-flagless States t.Zero o h = h
-flagless StateName t.Zero o h = h
-flagless MoreStates t.Zero o h = h
-flagless Start t.Zero o h = h
-flagless Lets t.Zero o h = h
-flagless LetName t.Zero o h = h
-flagless LetEnd t.Zero o h = h
-flagless AssignEnd t.Zero o h = h
-flagless Assigns t.Zero o h = h
-flagless Value t.Zero o h = h
-flagless GateOpen t.Zero o h = h
-flagless More t.Zero o h = h
-flagless Open t.Zero o h = h
-flagless Begin t.Zero o h = h
-flagless Colon t.Zero o h = h
-flagless Arrow t.Zero o h = h
-flagless Equals t.Zero o h = h
-flagless _ _ o h = h
-
-none_along : {A B : Type 0} (f g : A → Option B) (o : Option A)
-    → ((x : A) → f x ≡ None → g x ≡ None) → option_and_then f o ≡ None → option_and_then g o ≡ None
-none_along f g None k h = refl
-none_along f g (Some x) k h = k x h
-
-pub stays_refused : (ws : List Wanted) (ts more : List Terminal) → allowed ws ts ≡ None
-    → allowed ws (ts ++ more) ≡ None
-unfolding allowed
-stays_refused ws [] more h = cc
-stays_refused [] (u ∷ ts) more h = refl
-stays_refused (want ∷ ws) (u ∷ []) more h = rw
-    (flagless want u (opens_terminal more) (none_first (follow want u false) h)) refl
-  where
-    none_first : (o : Option (List Wanted)) → option_and_then (λ front. Some (front ++ ws)) o ≡ None
-        → o ≡ None
-    none_first None h = refl
-    none_first (Some x) h = cc
-stays_refused (want ∷ ws) (u ∷ v ∷ ts) more h =
-    none_along (λ front. allowed (front ++ ws) (v ∷ ts))
-    (λ front. allowed (front ++ ws) (v ∷ (ts ++ more))) (follow want u (is_opening v))
-    (λ front g. stays_refused (front ++ ws) (v ∷ ts) more g) h
+-- Where a token is refused, it is refused whatever follows.
+pub alike : IsAlike operation_texts
+alike Value (t.Name n) o p h = cc
+alike _ t.Zero o p h = h
+alike _ _ o p h = h
 
 -- What is wanted can be given: a gate's parenthesis is wanted only where it follows, an op only at
 -- the bottom, and after a value comes what cannot be a parenthesis.
@@ -156,7 +105,7 @@ finish [] = []
 finish (w ∷ ws) = closing w ++ finish ws
 
 finishes : (ws : List Wanted) → is_stack ws ≡ true → allowed ws (finish ws) ≡ Some (Ops ∷ [])
-unfolding allowed
+unfolding machine.allowed
 finishes [] h = cc
 finishes (Ops ∷ []) h = refl
 finishes (Ops ∷ w ∷ ws) h = cc
@@ -273,114 +222,39 @@ last_flag : (want : Wanted) (ws : List Wanted) (u : Terminal) (front : List Want
 last_flag Value ws (t.Name n) front s h =
     let e : [] ≡ front = cc in
     rw (← e, (below ws s).1) refl
-last_flag Ops ws t.Zero front s h = h
-last_flag NewOp ws t.Zero front s h = h
-last_flag NewParam ws t.Zero front s h = h
-last_flag ParamKind ws t.Zero front s h = h
-last_flag Params ws t.Zero front s h = h
-last_flag NewResult ws t.Zero front s h = h
-last_flag ResultKind ws t.Zero front s h = h
-last_flag FirstStmt ws t.Zero front s h = h
-last_flag Stmts ws t.Zero front s h = h
-last_flag SecondResult ws t.Zero front s h = h
-last_flag SecondTarget ws t.Zero front s h = h
-last_flag NewTarget ws t.Zero front s h = h
-last_flag WordOpName ws t.Zero front s h = h
-last_flag Args ws t.Zero front s h = h
-last_flag ArgName ws t.Zero front s h = h
-last_flag MoreArgs ws t.Zero front s h = h
-last_flag WordEnd ws t.Zero front s h = h
-last_flag Direction ws t.Zero front s h = h
-last_flag States ws t.Zero front s h = h
-last_flag StateName ws t.Zero front s h = h
-last_flag MoreStates ws t.Zero front s h = h
-last_flag Start ws t.Zero front s h = h
-last_flag Lets ws t.Zero front s h = h
-last_flag LetName ws t.Zero front s h = h
-last_flag LetEnd ws t.Zero front s h = h
-last_flag AssignEnd ws t.Zero front s h = h
-last_flag Assigns ws t.Zero front s h = h
-last_flag Value ws t.Zero front s h = h
-last_flag GateOpen ws t.Zero front s h = h
-last_flag More ws t.Zero front s h = h
-last_flag Open ws t.Zero front s h = h
-last_flag Begin ws t.Zero front s h = h
-last_flag Colon ws t.Zero front s h = h
-last_flag Arrow ws t.Zero front s h = h
-last_flag Equals ws t.Zero front s h = h
+last_flag _ ws t.Zero front s h = h
 last_flag _ ws _ front s h = h
 
-complete : (ts : List Terminal) (ws end : List Wanted) → is_before (opens_terminal ts) ws ≡ true
-    → allowed ws ts ≡ Some end → allowed ws (ts ++ finish end) ≡ Some (Ops ∷ [])
-unfolding allowed
-complete [] ws end s h = let e : ws ≡ end = cc in rw (← e) (finishes ws (unloosen ws s))
-complete (u ∷ ts) [] end s h = cc
-complete (u ∷ []) (want ∷ ws) end s h = last (follow want u false) refl (keeps want ws u false s) h
-  where
-    last : (o : Option (List Wanted)) → follow want u false ≡ o → Keeps false ws o
-        → option_and_then (λ front. Some (front ++ ws)) o ≡ Some end
-        → allowed (want ∷ ws) (u ∷ finish end) ≡ Some (Ops ∷ [])
-    last None e k h = cc
-    last (Some front) e k h =
-        let is : front ++ ws ≡ end = cc in
-        let go : allowed (want ∷ ws) (u ∷ finish (front ++ ws)) ≡ Some (Ops ∷ []) =
-        rw (last_flag want ws u front s e) (finishes (front ++ ws) (unloosen (front ++ ws) k))
-        in
-        ap (λ l. allowed (want ∷ ws) (u ∷ finish l)) (sym is) ∙ go
-complete (u ∷ v ∷ ts) (want ∷ ws) end s h = on (follow want u (is_opening v))
-    (keeps want ws u (is_opening v) s) (λ front k h. complete (v ∷ ts) (front ++ ws) end k h) h
-  where
-    on : (o : Option (List Wanted)) → Keeps (is_opening v) ws o
-        → ((front : List Wanted) → is_before (is_opening v) (front ++ ws) ≡ true
-        → allowed (front ++ ws) (v ∷ ts) ≡ Some end
-        → allowed (front ++ ws) (v ∷ (ts ++ finish end)) ≡ Some (Ops ∷ []))
-        → option_and_then (λ front. allowed (front ++ ws) (v ∷ ts)) o ≡ Some end
-        → option_and_then (λ front. allowed (front ++ ws) (v ∷ (ts ++ finish end))) o
-        ≡ Some (Ops ∷ [])
-    on None k go h = cc
-    on (Some front) k go h = go front k h
+keeps_some : (want : Wanted) (ws front : List Wanted) (u : Terminal) (o : Bool)
+    → is_before (is_opening u) (want ∷ ws) ≡ true → follow want u o ≡ Some front
+    → is_before o (front ++ ws) ≡ true
+keeps_some want ws front u o h e =
+    subst (Keeps o ws) e (keeps want ws u o h)
 
--- what is wanted after tokens can be given
-pub stays_stack : (ts : List Terminal) (ws end : List Wanted)
-    → is_before (opens_terminal ts) ws ≡ true → allowed ws ts ≡ Some end → is_stack end ≡ true
-unfolding allowed
-stays_stack [] ws end s h = let e : ws ≡ end = cc in rw (← e) (unloosen ws s)
-stays_stack (u ∷ ts) [] end s h = cc
-stays_stack (u ∷ ts) (want ∷ ws) end s h = on (follow want u (opens_terminal ts))
-    (keeps want ws u (opens_terminal ts) s) (λ front k h. stays_stack ts (front ++ ws) end k h) h
-  where
-    on : (o : Option (List Wanted)) → Keeps (opens_terminal ts) ws o
-        → ((front : List Wanted) → is_before (opens_terminal ts) (front ++ ws) ≡ true
-        → allowed (front ++ ws) ts ≡ Some end → is_stack end ≡ true)
-        → option_and_then (λ front. allowed (front ++ ws) ts) o ≡ Some end → is_stack end ≡ true
-    on None k go h = cc
-    on (Some front) k go h = go front k h
-
-pub viable : (ts : List Terminal) (o : Option (List Wanted)) → allowed (Ops ∷ []) ts ≡ o → IsSome o
-    → IsViable ts
-viable ts None e h = cc
-viable ts (Some end) e h =
-    let j = complete ts (Ops ∷ []) end refl e in
-    let b = text_back (length (ts ++ finish end)) (ts ++ finish end) (omega arith) j in
-    (b.0, finish end, sym b.1)
-
-pub not_viable : (ts : List Terminal) (o : Option (List Wanted)) → allowed (Ops ∷ []) ts ≡ o
-    → IsViable ts → IsSome o
-not_viable ts None e v =
-    let a : allowed (Ops ∷ []) (text_of v.0) ≡ Some (Ops ∷ []) = text_runs v.0 in
-    let b : allowed (Ops ∷ []) (text_of v.0) ≡ None = ap (allowed (Ops ∷ [])) v.2
-    ∙ stays_refused (Ops ∷ []) ts v.1 e in
-    cc
-not_viable ts (Some end) e v = refl
-
-pub is_the_grammar : IsTheGrammar
-is_the_grammar = record {
-  accepts = λ ts. (
-    (λ h. text_back (length ts) ts (omega arith) h),
-    (λ b. ap (allowed (Ops ∷ [])) b.1 ∙ text_runs b.0),
-  );
-  allows = λ ts. (
-    viable ts (allowed (Ops ∷ []) ts) refl,
-    not_viable ts (allowed (Ops ∷ []) ts) refl,
-  );
+-- what is wanted can be given
+pub completes : Completes operation_texts
+completes = record {
+  Fine = λ o ws. is_before o ws ≡ true;
+  first = λ o. refl;
+  keeps = keeps_some;
+  finish = finish;
+  finishes = λ ws h. (Ops ∷ [], finishes ws (unloosen ws h), refl);
+  last = λ want ws front u h e. last_flag want ws u front h e;
 }
+
+only_ops : (end : List Wanted) → is_stack end ≡ true → machine.ends operation_texts end ≡ None
+    → end ≡ Ops ∷ []
+only_ops [] h e = cc
+only_ops (Ops ∷ []) h e = refl
+only_ops (Ops ∷ w ∷ ws) h e = cc
+only_ops (w ∷ ws) h e = cc
+
+back : (ts : List Terminal) → IsAccepted operation_texts ts → IsText ts
+unfolding completes
+back ts (end, e, f) =
+    let same = only_ops end (unloosen end (stack_is_fine operation_texts completes ts end e)) f in
+    text_back (length ts) ts (omega arith) (e ∙ ap (λ (w : List Wanted). Some w) same)
+
+pub grammar : IsTheGrammar operation_texts IsText
+grammar = is_the_grammar operation_texts completes IsText alike back
+    (λ ts (ops, e). (Ops ∷ [], ap (allowed (Ops ∷ [])) e ∙ text_runs ops, refl))

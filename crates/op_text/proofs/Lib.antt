@@ -3,7 +3,7 @@ mod Worked
 pub mod Forward
 pub mod Back
 pub mod Complete
-pub mod Steps
+pub mod Allowed
 pub mod Link
 pub mod Rows
 pub mod Operations

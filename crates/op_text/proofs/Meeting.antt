@@ -11,10 +11,10 @@ use Rattle.text_lex.specs.declared.token.TokenKind.{TokenKind}
 use Rattle.text_lex.specs.declared.token.TokenKind.TheVariants as kinds
 use Rattle.text_lex.proofs.Right.{items_right}
 use Rattle.op_text.specs.declared.fault.OpsKind.{OpsKind}
-use Rattle.op_text.specs.declared.fault.Breach.{Breach}
-use Rattle.op_text.specs.declared.grammar.Wanted.{Wanted}
-use Rattle.op_text.specs.Items.{texts, opens, terminal_of}
-use Rattle.op_text.specs.Rules.{Scope, step, after, breach_of, first_breach, nothing_yet}
+use Rattle.grammar.specs.Machine as machine
+use Rattle.op_text.specs.declared.wanted.Wanted.{Wanted}
+use Rattle.op_text.specs.Items.{Breach, texts, opens, terminal_of}
+use Rattle.op_text.specs.Rules.{Scope, step, breach_of, first_breach, nothing_yet}
 use Rattle.op_text.specs.Language.{Operation}
 use Rattle.op_text.specs.Spelling.{kind_of_text, unplaced, items_spelled, bare, operations_text}
 use Rattle.op_text.specs.Spelling.{MeetRules}
@@ -60,14 +60,14 @@ bare_one u e = rw e refl
 -- after a token that breaks no rule
 following : (r : Result (List Wanted × Scope) OpsKind) (u : Lexeme) (go : List Wanted → Scope
     → Option Breach) (P : Type 0) → ((f : List Wanted) (s : Scope) → go f s ≡ None → P)
-    → after r u go ≡ None → P
+    → machine.after r u go ≡ None → P
 following (Ok r) u go P f h = f r.0 r.1 h
 following (Err why) u go P f h = cc
 
 bare_all : (source : List ℕ) (items : List Item) (wanted : List Wanted) (s : Scope)
     → AllByRecursion (IsRight source) items → breach_of wanted s items ≡ None
     → map bare items ≡ items_spelled (texts items)
-unfolding breach_of
+unfolding machine.breach_of
 bare_all source [] wanted s a h = refl
 bare_all source (Bad f ∷ items) wanted s a h = cc
 bare_all source (Whole u ∷ items) [] s a h = cc

@@ -2,10 +2,10 @@
 use Rattle.std.proofs.Common.{◌≡◌, List, [], ◌∷◌, ◌++◌, map, Option, None, Result, Ok, Err, refl}
 use Rattle.text_lex.specs.Lexical.{Item, Lexeme, Whole, Bad}
 use Rattle.op_text.specs.declared.fault.OpsKind.{OpsKind}
-use Rattle.op_text.specs.declared.fault.Breach.{Breach}
-use Rattle.op_text.specs.Items.{opens, terminal_of}
-use Rattle.op_text.specs.declared.grammar.Wanted.{Wanted}
-use Rattle.op_text.specs.Rules.{Scope, step, after, breach_of}
+use Rattle.grammar.specs.Machine as machine
+use Rattle.op_text.specs.Items.{Breach, opens, terminal_of}
+use Rattle.op_text.specs.declared.wanted.Wanted.{Wanted}
+use Rattle.op_text.specs.Rules.{Scope, step, breach_of}
 use Rattle.op_text.specs.Spelling.{bare, PlacesDoNotMatter}
 
 opens_bare : (items : List Item) → opens (map bare items) ≡ opens items
@@ -15,13 +15,13 @@ opens_bare (Bad f ∷ items) = refl
 
 after_same : (r : Result (List Wanted × Scope) OpsKind) (u v : Lexeme) (go go' : List Wanted → Scope
     → Option Breach) → ((f : List Wanted) (s : Scope) → go f s ≡ None → go' f s ≡ None)
-    → after r u go ≡ None → after r v go' ≡ None
+    → machine.after r u go ≡ None → machine.after r v go' ≡ None
 after_same (Ok r) u v go go' k h = k r.0 r.1 h
 after_same (Err why) u v go go' k h = cc
 
 forth : (items : List Item) (wanted : List Wanted) (s : Scope) → breach_of wanted s items ≡ None
     → breach_of wanted s (map bare items) ≡ None
-unfolding breach_of
+unfolding machine.breach_of
 forth [] wanted s h = h
 forth (Bad f ∷ items) wanted s h = cc
 forth (Whole u ∷ items) [] s h = cc
@@ -34,7 +34,7 @@ forth (Whole u ∷ items) (w ∷ wanted) s h =
 
 back : (items : List Item) (wanted : List Wanted) (s : Scope)
     → breach_of wanted s (map bare items) ≡ None → breach_of wanted s items ≡ None
-unfolding breach_of
+unfolding machine.breach_of
 back [] wanted s h = h
 back (Bad f ∷ items) wanted s h = cc
 back (Whole u ∷ items) [] s h = cc

@@ -5,7 +5,7 @@ use Rattle.op_text.specs.declared.fault.OpsFault.{OpsFault}
 use Rattle.op_text.specs.declared.fault.OpsKind.{OpsKind}
 use Rattle.op_text.specs.declared.fault.OpsKind.TheVariants.{Lex, Syntax, BadName, Twice, Unknown}
 use Rattle.op_text.specs.declared.fault.OpsKind.TheVariants.{Kind, NoResult, TooMany}
-use Rattle.op_text.specs.Rules.{breach_of}
+use Rattle.grammar.specs.Machine as machine
 use Rattle.op_text.specs.Lines.{fault_in}
 
 abbrev Each : List (List ℕ) → Option OpsFault → Type 0
@@ -23,7 +23,7 @@ accepted_a : Each (
     codes "op f(a: word, b: word, p: bit) -> y: word {\nt = eq(a, b);\ny = if_else(a, b, t);\n}" ∷
     codes "op f(a: word, b: word, p: bit) -> y: bit {\ny = if_else(p, p, p);\n}" ∷
     codes "op abcdefghijklmnop(a: word) -> y: word { y = not(a); }" ∷ []) None
-unfolding breach_of items_from front_of
+unfolding machine.breach_of items_from front_of
 accepted_a = refl
 
 accepted_b : Each (
@@ -42,7 +42,7 @@ accepted_b : Each (
     (codes "op f(a: word, b: word, p: bit) -> y: word {\nserial up (s0 = 0, s1 = 0, s2 = 0"
     ++ codes ", s3 = 0, s4 = 0, s5 = 0, s6 = 0, s7 = 0) {\ny = 0;\n"
     ++ codes "}\n}") ∷ []) None
-unfolding breach_of items_from front_of
+unfolding machine.breach_of items_from front_of
 accepted_b = refl
 
 accepted_c : Each (
@@ -86,17 +86,17 @@ accepted_c : Each (
     ++ codes " }op f30(a: word) -> y: word { y = not(a); }op f31(a: word) -> y: word { y = n"
     ++ codes "ot(a); }") ∷
     codes "op f(a: word) -> y: bit { serial up (y = 0) { y = a; t = y; } z = copy(y); }" ∷ []) None
-unfolding breach_of items_from front_of
+unfolding machine.breach_of items_from front_of
 accepted_c = refl
 
 lex_1 : Each (
     codes "op f(a: word) - y: word { y = add(a,a); }" ∷ []) (at_line 1 Lex)
-unfolding breach_of items_from front_of
+unfolding machine.breach_of items_from front_of
 lex_1 = refl
 
 lex_2 : Each (
     codes "op f(a: word, b: word, p: bit) -> y: word {\ny = not(a) @\n}" ∷ []) (at_line 2 Lex)
-unfolding breach_of items_from front_of
+unfolding machine.breach_of items_from front_of
 lex_2 = refl
 
 syntax_1 : Each (
@@ -105,7 +105,7 @@ syntax_1 : Each (
     codes "op f(a: up) -> y: word { y = not(a); }" ∷
     codes "op f() -> y: word { y = zero(); }" ∷
     codes "op f(a: word) -> y: word { y = add(a,a) }" ∷ []) (at_line 1 Syntax)
-unfolding breach_of items_from front_of
+unfolding machine.breach_of items_from front_of
 syntax_1 = refl
 
 syntax_2 : Each (
@@ -118,7 +118,7 @@ syntax_2 : Each (
     codes "op f(a: word, b: word, p: bit) -> y: word {\nserial up () { }\n}" ∷
     codes "op f(a: word, b: word, p: bit) -> y: word {\nserial up (c = 0,) { c = a; }\n}"
     ∷ []) (at_line 2 Syntax)
-unfolding breach_of items_from front_of
+unfolding machine.breach_of items_from front_of
 syntax_2 = refl
 
 syntax_3 : Each (
@@ -127,13 +127,13 @@ syntax_3 : Each (
     codes "op f(a: word, b: word, p: bit) -> y: word {\nserial up () {\ny = 2;\n}\n}" ∷
     codes "op f(a: word, b: word, p: bit) -> y: word {\nserial up () {\ny = 01;\n}\n}"
     ∷ []) (at_line 3 Syntax)
-unfolding breach_of items_from front_of
+unfolding machine.breach_of items_from front_of
 syntax_3 = refl
 
 syntax_4 : Each (
     codes "op f(a: word, b: word, p: bit) -> y: word {\nserial up () {\nlet x = not(a);\n}\n}"
     ∷ []) (at_line 4 Syntax)
-unfolding breach_of items_from front_of
+unfolding machine.breach_of items_from front_of
 syntax_4 = refl
 
 bad_name_1 : Each (
@@ -142,20 +142,20 @@ bad_name_1 : Each (
     codes "op abcdefghijklmnopq(a: word) -> y: word { y = not(a); }" ∷
     codes "op f(a: word, up: bit) -> y: word { y = not(a); }" ∷
     codes "op f(a: word) -> y: word { let = a; }" ∷ []) (at_line 1 BadName)
-unfolding breach_of items_from front_of
+unfolding machine.breach_of items_from front_of
 bad_name_1 = refl
 
 bad_name_2 : Each (
     codes "op f(a: word, b: word, p: bit) -> y: word {\nlet = not(a);\n}" ∷
     codes "op f(a: word, b: word, p: bit) -> y: word {\nword = not(a);\n}" ∷ []) (at_line 2 BadName)
-unfolding breach_of items_from front_of
+unfolding machine.breach_of items_from front_of
 bad_name_2 = refl
 
 bad_name_3 : Each (
     codes "op f(a: word, b: word, p: bit) -> y: word {\nserial up () {\ny = a; let x = a;\n}\n}" ∷
     codes "op f(a: word, b: word, p: bit) -> y: word {\nserial up () {\ny = up;\n}\n}"
     ∷ []) (at_line 3 BadName)
-unfolding breach_of items_from front_of
+unfolding machine.breach_of items_from front_of
 bad_name_3 = refl
 
 twice_1 : Each (
@@ -167,7 +167,7 @@ twice_1 : Each (
     codes "op f(a: word) -> y: word { serial up () { t = a; } serial up (t = 0) { y = a; } }" ∷
     codes "op f(a: word) -> y: word { serial up (s = 0) { t = a; } serial up () { s = a; y = a;} }"
     ∷ []) (at_line 1 Twice)
-unfolding breach_of items_from front_of
+unfolding machine.breach_of items_from front_of
 twice_1 = refl
 
 twice_2 : Each (
@@ -175,7 +175,7 @@ twice_2 : Each (
     codes "op f(a: word, b: word, p: bit) -> y: bit {\nserial up (y = 0, y = 1) {\nz = a;\n}\n}" ∷
     codes "op f(a: word, b: word, p: bit) -> y: word {\nserial up (y = 0, y = 1) {\nz = a;\n}\n}"
     ∷ []) (at_line 2 Twice)
-unfolding breach_of items_from front_of
+unfolding machine.breach_of items_from front_of
 twice_2 = refl
 
 twice_3 : Each (
@@ -187,13 +187,13 @@ twice_3 : Each (
     codes "op f(a: word, b: word, p: bit) -> y: word {\nserial up () {\na = b;\n}\n}" ∷
     (codes "op f(a: word, b: word, p: bit) -> y: bit {\ny = or_red(a);\n"
     ++ codes "serial up (y = 0) {\nz = a;\n}\n}") ∷ []) (at_line 3 Twice)
-unfolding breach_of items_from front_of
+unfolding machine.breach_of items_from front_of
 twice_3 = refl
 
 twice_4 : Each (
     codes "op f(a: word, b: word, p: bit) -> y: bit {\ny = or_red(a);\nserial up () {\ny = a;\n}\n}"
     ∷ []) (at_line 4 Twice)
-unfolding breach_of items_from front_of
+unfolding machine.breach_of items_from front_of
 twice_4 = refl
 
 twice_5 : Each (
@@ -201,7 +201,7 @@ twice_5 : Each (
     ++ codes "let x = a; y = x;\n}\nx = not(a);\n}") ∷
     (codes "op f(a: word, b: word, p: bit) -> y: word {\nserial up (c = 1) {\n"
     ++ codes "z = a;\n}\nc = not(p);\ny = not(z);\n}") ∷ []) (at_line 5 Twice)
-unfolding breach_of items_from front_of
+unfolding machine.breach_of items_from front_of
 twice_5 = refl
 
 twice_18 : Each (
@@ -211,21 +211,21 @@ twice_18 : Each (
     ++ codes "t9 = not(a);\nt10 = not(a);\nt11 = not(a);\nt12 = not(a);\n"
     ++ codes "t13 = not(a);\nt14 = not(a);\nt15 = not(a);\na = not(a);\n"
     ++ codes "}") ∷ []) (at_line 18 Twice)
-unfolding breach_of items_from front_of
+unfolding machine.breach_of items_from front_of
 twice_18 = refl
 
 unknown_1 : Each (
     codes "op f(a: word) -> y: word { y = not(a); } op g(a: word) -> y: word { y = not(f); }" ∷
     codes "op f(a: word) -> y: word { serial up () { let l = a; t = l; } serial up () { y = l; } }"
     ∷ []) (at_line 1 Unknown)
-unfolding breach_of items_from front_of
+unfolding machine.breach_of items_from front_of
 unknown_1 = refl
 
 unknown_2 : Each (
     codes "op f(a: word, b: word, p: bit) -> y: word {\ny = foo(a);\n}" ∷
     codes "op f(a: word, b: word, p: bit) -> y: word {\ny = zero(q);\n}" ∷
     codes "op f(a: word, b: word, p: bit) -> y: word {\ny = not(y);\n}" ∷ []) (at_line 2 Unknown)
-unfolding breach_of items_from front_of
+unfolding machine.breach_of items_from front_of
 unknown_2 = refl
 
 unknown_3 : Each (
@@ -237,25 +237,25 @@ unknown_3 : Each (
     codes "op f(a: word, b: word, p: bit) -> y: word {\nserial up () {\ny = foo;\n}\n}" ∷
     codes "op f(a: word, b: word, p: bit) -> y: word {\nserial up () {\ny = and;\n}\n}"
     ∷ []) (at_line 3 Unknown)
-unfolding breach_of items_from front_of
+unfolding machine.breach_of items_from front_of
 unknown_3 = refl
 
 unknown_5 : Each (
     (codes "op f(a: word, b: word, p: bit) -> y: word {\nserial up () {\n"
     ++ codes "let x = a; y = x;\n}\nz = not(x);\n}") ∷ []) (at_line 5 Unknown)
-unfolding breach_of items_from front_of
+unfolding machine.breach_of items_from front_of
 unknown_5 = refl
 
 unknown_6 : Each (
     (codes "op f(a: word, b: word, p: bit) -> y: word {\nserial up (c = 0) {\n"
     ++ codes "y = 0;\n}\n} op g(a: word, b: word, p: bit) -> y: word {\n"
     ++ codes "y = c;\n}") ∷ []) (at_line 6 Unknown)
-unfolding breach_of items_from front_of
+unfolding machine.breach_of items_from front_of
 unknown_6 = refl
 
 kind_1 : Each (
     codes "op f(a: word) -> y: word { y = not(a,); }" ∷ []) (at_line 1 Kind)
-unfolding breach_of items_from front_of
+unfolding machine.breach_of items_from front_of
 kind_1 = refl
 
 kind_2 : Each (
@@ -266,7 +266,7 @@ kind_2 : Each (
     codes "op f(a: word, b: word, p: bit) -> y: word {\ny = eq(a, b);\n}" ∷
     codes "op f(a: word, b: word, p: bit) -> y: word {\ny = if_else(a, b, a);\n}"
     ∷ []) (at_line 2 Kind)
-unfolding breach_of items_from front_of
+unfolding machine.breach_of items_from front_of
 kind_2 = refl
 
 kind_3 : Each (
@@ -275,20 +275,20 @@ kind_3 : Each (
     codes "op f(a: word, b: word, p: bit) -> y: word {\nserial up () {\ny = and(a, b, a);\n}\n}" ∷
     codes "op f(a: word, b: word, p: bit) -> y: bit {\nserial up () {\ny = a;\n}\n}"
     ∷ []) (at_line 3 Kind)
-unfolding breach_of items_from front_of
+unfolding machine.breach_of items_from front_of
 kind_3 = refl
 
 kind_5 : Each (
     (codes "op f(a: word, b: word, p: bit) -> y: word {\nserial up (c = 1) {\n"
     ++ codes "z = a;\n}\ny = not(c);\n}") ∷ []) (at_line 5 Kind)
-unfolding breach_of items_from front_of
+unfolding machine.breach_of items_from front_of
 kind_5 = refl
 
 no_result_3 : Each (
     codes "op f(a: word, b: word, p: bit) -> y: word {\nt = and(a, b);\n}" ∷
     codes "op f(a: word, b: word, p: bit) -> y: word {\nserial up (c = 0) { c = a; }\n}"
     ∷ []) (at_line 3 NoResult)
-unfolding breach_of items_from front_of
+unfolding machine.breach_of items_from front_of
 no_result_3 = refl
 
 too_many_1 : Each (
@@ -311,14 +311,14 @@ too_many_1 : Each (
     ++ codes "28(a: word) -> y: word { y = not(a); }op f29(a: word) -> y: word { y = not(a);"
     ++ codes " }op f30(a: word) -> y: word { y = not(a); }op f31(a: word) -> y: word { y = n"
     ++ codes "ot(a); }op f32(a: word) -> y: word { y = not(a); }") ∷ []) (at_line 1 TooMany)
-unfolding breach_of items_from front_of
+unfolding machine.breach_of items_from front_of
 too_many_1 = refl
 
 too_many_2 : Each (
     (codes "op f(a: word, b: word, p: bit) -> y: word {\nserial up (s0 = 0, s1 = 0, s2 = 0"
     ++ codes ", s3 = 0, s4 = 0, s5 = 0, s6 = 0, s7 = 0, s8 = 0) {\n"
     ++ codes "y = 0;\n}\n}") ∷ []) (at_line 2 TooMany)
-unfolding breach_of items_from front_of
+unfolding machine.breach_of items_from front_of
 too_many_2 = refl
 
 too_many_3 : Each (
@@ -334,7 +334,7 @@ too_many_3 : Each (
     ++ codes "et t7 = 0;let t8 = 0;let t9 = 0;let t10 = 0;let t11 = 0;let t12 = 0;let t13 = "
     ++ codes "0;let t14 = 0;let t15 = 0;let t16 = 0;y = 0;\n}\n"
     ++ codes "}") ∷ []) (at_line 3 TooMany)
-unfolding breach_of items_from front_of
+unfolding machine.breach_of items_from front_of
 too_many_3 = refl
 
 too_many_4 : Each (
@@ -342,7 +342,7 @@ too_many_4 : Each (
     ++ codes "let x1 = xor(a, b);let x2 = xor(x1, b);let x3 = xor(x2, b);let x4 = xor(x3, b)"
     ++ codes ";let x5 = xor(x4, b);let x6 = xor(x5, b);let x7 = xor(x6, b);let x8 = xor(x7, "
     ++ codes "b);\ny = and(x8, a);\n}\n}") ∷ []) (at_line 4 TooMany)
-unfolding breach_of items_from front_of
+unfolding machine.breach_of items_from front_of
 too_many_4 = refl
 
 too_many_18 : Each (
@@ -358,7 +358,7 @@ too_many_18 : Each (
     ++ codes "t9 = not(a);\nt10 = not(a);\nt11 = not(a);\nt12 = not(a);\n"
     ++ codes "t13 = not(a);\nt14 = not(a);\nt15 = not(a);\nserial up () { y = a; }\n"
     ++ codes "}") ∷ []) (at_line 18 TooMany)
-unfolding breach_of items_from front_of
+unfolding machine.breach_of items_from front_of
 too_many_18 = refl
 
 -- two results and two targets
@@ -371,7 +371,7 @@ accepted_two : Each (
     codes "op f(a: word, b: word) -> y: word, e: bit { y = add(a, b); e = eq(y, b); }" ∷
     codes "op f(a: word, b: word) -> e: bit, y: word { y = add(a, b); e = eq(y, b); }" ∷
     codes "op f(a: word) -> y: word, z: word { serial up () { y = a; z = not(a); } }" ∷ []) None
-unfolding breach_of items_from front_of
+unfolding machine.breach_of items_from front_of
 accepted_two = refl
 
 accepted_states : Each (
@@ -379,13 +379,13 @@ accepted_states : Each (
     codes "op f(a: word) -> c: bit, y: word { serial up (c = 0) { y = a; c = or(c, a); } }" ∷
     codes "op f(a: word) -> c: bit, d: bit { serial up (c = 0, d = 1) { d = a; } }" ∷
     codes "op f(a: word) -> c: bit, d: bit { serial up (d = 1) { d = a; } c = copy(d); }" ∷ []) None
-unfolding breach_of items_from front_of
+unfolding machine.breach_of items_from front_of
 accepted_states = refl
 
 twice_two_2 : Each (
     codes "op f(a: word) -> q: word,\nq\n: word { q = copy(a); }" ∷
     codes "op f(a: word) -> q: word,\na\n: word { q = copy(a); }" ∷ []) (at_line 2 Twice)
-unfolding breach_of items_from front_of
+unfolding machine.breach_of items_from front_of
 twice_two_2 = refl
 
 twice_two_3 : Each (
@@ -407,7 +407,7 @@ twice_two_3 : Each (
     ++ codes " = l; }\nq,\nl\n= divmod(a, b); }") ∷
     (codes "op f(a: word, b: word) -> q: word, r: word { serial up (s = 0) { t = a; "
     ++ codes "}\nq,\ns\n= divmod(a, b); }") ∷ []) (at_line 3 Twice)
-unfolding breach_of items_from front_of
+unfolding machine.breach_of items_from front_of
 twice_two_3 = refl
 
 twice_first : Each (
@@ -415,7 +415,7 @@ twice_first : Each (
     ++ codes "od(a, b); }") ∷
     (codes "op f(a: word, b: word) -> q: word, r: word { q, r = divmod(a, b);\nr\n, "
     ++ codes "t = divmod(a, b); }") ∷ []) (at_line 2 Twice)
-unfolding breach_of items_from front_of
+unfolding machine.breach_of items_from front_of
 twice_first = refl
 
 kind_end : Each (
@@ -424,7 +424,7 @@ kind_end : Each (
     codes "op f(a: word, b: word) -> y: bit {\nt, y = divmod(a, b)\n; }" ∷
     (codes "op f(a: word, b: word) -> q: word, e: bit {\ne = add(a, b)\n; q = copy(a"
     ++ codes "); }") ∷ []) (at_line 3 Kind)
-unfolding breach_of items_from front_of
+unfolding machine.breach_of items_from front_of
 kind_end = refl
 
 kind_targets : Each (
@@ -433,7 +433,7 @@ kind_targets : Each (
     codes "op f(a: word, b: word) -> q: word, r: word {\nq, r =\nzero\n(); }" ∷
     (codes "op f(a: word) -> q: word, c: bit { q = copy(a);\nserial up () {\nc\n= a;"
     ++ codes " } }") ∷ []) (at_line 3 Kind)
-unfolding breach_of items_from front_of
+unfolding machine.breach_of items_from front_of
 kind_targets = refl
 
 kind_arguments : Each (
@@ -441,7 +441,7 @@ kind_arguments : Each (
     codes "op f(a: word, b: word) -> q: word, r: word {\nq, r = divmod(a\n); }" ∷
     (codes "op f(a: word, b: word) -> q: word, r: word {\nq, r = divmod(a, b\n, a); "
     ++ codes "}") ∷ []) (at_line 3 Kind)
-unfolding breach_of items_from front_of
+unfolding machine.breach_of items_from front_of
 kind_arguments = refl
 
 unknown_two : Each (
@@ -449,7 +449,7 @@ unknown_two : Each (
     codes "op f(a: word, b: word) -> q: word, r: word {\nq, r = divmod(\nq\n, b); }" ∷
     (codes "op f(a: word, b: word) -> q: word, r: word { q = copy(a);\nt = add(a,\nr"
     ++ codes "\n); r = copy(a); }") ∷ []) (at_line 3 Unknown)
-unfolding breach_of items_from front_of
+unfolding machine.breach_of items_from front_of
 unknown_two = refl
 
 no_result_two : Each (
@@ -461,7 +461,7 @@ no_result_two : Each (
     codes "op f(a: word) -> q: word, c: bit {\nserial up () { q = a; }\n}" ∷
     codes "op f(a: word) -> q: word, c: bit {\nserial up (c = 0) { c = a; }\n}"
     ∷ []) (at_line 3 NoResult)
-unfolding breach_of items_from front_of
+unfolding machine.breach_of items_from front_of
 no_result_two = refl
 
 syntax_two : Each (
@@ -477,7 +477,7 @@ syntax_two : Each (
     (codes "op f(a: word, b: word) -> q: word, r: word {\nserial up () { t\n, u = a;"
     ++ codes " } }") ∷
     codes "op f(a: word, b: word) -> q: word, r: word {\n\nq," ∷ []) (at_line 3 Syntax)
-unfolding breach_of items_from front_of
+unfolding machine.breach_of items_from front_of
 syntax_two = refl
 
 bad_name_two : Each (
@@ -487,5 +487,5 @@ bad_name_two : Each (
     (codes "op f(a: word, b: word) -> q: word, r: word {\nq,\nabcdefghijklmnopq = di"
     ++ codes "vmod(a, b); }") ∷
     codes "op f(a: word)\n-> q: word,\nlet: word { q = copy(a); }" ∷ []) (at_line 3 BadName)
-unfolding breach_of items_from front_of
+unfolding machine.breach_of items_from front_of
 bad_name_two = refl

@@ -1,18 +1,17 @@
 -- The grammar, one token at a time.
-use Rattle.std.specs.Prelude.{Bool, false, List, [], ◌∷◌, ◌++◌, Option, Some, None, option_and_then}
+use Rattle.std.specs.Prelude.{Bool, List, [], ◌∷◌, Option, Some, None}
 use Rattle.std.specs.Prelude.{if◌then◌else◌}
-use Rattle.op_text.specs.Items.{is_opening}
-use Rattle.op_text.specs.declared.grammar.Wanted.{Wanted}
-use Rattle.op_text.specs.declared.grammar.Wanted.TheVariants.{Ops, NewOp, NewParam, ParamKind}
-use Rattle.op_text.specs.declared.grammar.Wanted.TheVariants.{Params, NewResult, ResultKind}
-use Rattle.op_text.specs.declared.grammar.Wanted.TheVariants.{FirstStmt, Stmts, WordOpName, Args}
-use Rattle.op_text.specs.declared.grammar.Wanted.TheVariants.{ArgName, MoreArgs, WordEnd, Direction}
-use Rattle.op_text.specs.declared.grammar.Wanted.TheVariants.{States, StateName, MoreStates, Start}
-use Rattle.op_text.specs.declared.grammar.Wanted.TheVariants.{Lets, LetName, LetEnd, AssignEnd}
-use Rattle.op_text.specs.declared.grammar.Wanted.TheVariants.{Assigns, Value, GateOpen, More, Open}
-use Rattle.op_text.specs.declared.grammar.Wanted.TheVariants.{Begin, Colon, Arrow, Equals}
-use Rattle.op_text.specs.declared.grammar.Wanted.TheVariants.{SecondResult, SecondTarget}
-use Rattle.op_text.specs.declared.grammar.Wanted.TheVariants.{NewTarget}
+use Rattle.op_text.specs.declared.wanted.Wanted.{Wanted}
+use Rattle.op_text.specs.declared.wanted.Wanted.TheVariants.{Ops, NewOp, NewParam, ParamKind}
+use Rattle.op_text.specs.declared.wanted.Wanted.TheVariants.{Params, NewResult, ResultKind}
+use Rattle.op_text.specs.declared.wanted.Wanted.TheVariants.{FirstStmt, Stmts, WordOpName, Args}
+use Rattle.op_text.specs.declared.wanted.Wanted.TheVariants.{ArgName, MoreArgs, WordEnd, Direction}
+use Rattle.op_text.specs.declared.wanted.Wanted.TheVariants.{States, StateName, MoreStates, Start}
+use Rattle.op_text.specs.declared.wanted.Wanted.TheVariants.{Lets, LetName, LetEnd, AssignEnd}
+use Rattle.op_text.specs.declared.wanted.Wanted.TheVariants.{Assigns, Value, GateOpen, More, Open}
+use Rattle.op_text.specs.declared.wanted.Wanted.TheVariants.{Begin, Colon, Arrow, Equals}
+use Rattle.op_text.specs.declared.wanted.Wanted.TheVariants.{SecondResult, SecondTarget}
+use Rattle.op_text.specs.declared.wanted.Wanted.TheVariants.{NewTarget}
 use Rattle.op_text.specs.declared.terminal.Terminal.{Terminal}
 use Rattle.op_text.specs.declared.terminal.Terminal.TheVariants as t
 use Rattle.op_text.specs.declared.terminal.Spelling.{Spelling}
@@ -98,15 +97,3 @@ follow Colon t.Colon o = Some []
 follow Arrow t.Arrow o = Some []
 follow Equals t.Equals o = Some []
 follow w u o = None
-
--- whether an opening parenthesis comes next, which makes the name before it a gate
-abbrev pub opens_terminal : List Terminal → Bool
-opens_terminal [] = false
-opens_terminal (u ∷ ts) = is_opening u
-
--- What the grammar still asks for after tokens; or none, where one is not allowed.
-unfoldable pub allowed : List Wanted → List Terminal → Option (List Wanted)
-allowed wanted [] = Some wanted
-allowed [] (u ∷ ts) = None
-allowed (w ∷ wanted) (u ∷ ts) = option_and_then (λ front. allowed (front ++ wanted) ts)
-    (follow w u (opens_terminal ts))

@@ -1,8 +1,7 @@
 -- The tokens that are left to read.
 use Rattle.std.specs.Prelude.{ℕ, Bool, true, false, List, [], ◌∷◌, Option, Some, None, bytes_eq}
 use Rattle.std.specs.Prelude.{codes, if◌then◌else◌}
-use Rattle.text_lex.specs.Lexical.{Item, Lexeme, Whole, Bad}
-use Rattle.text_lex.specs.declared.token.LexFault.{LexFault}
+use Rattle.text_lex.specs.Lexical.{Item, Whole, Bad}
 use Rattle.text_lex.specs.declared.token.TokenKind.{TokenKind}
 use Rattle.text_lex.specs.declared.token.TokenKind.TheVariants as kinds
 use Rattle.op_text.specs.declared.terminal.Terminal.{Terminal}
@@ -13,7 +12,8 @@ use Rattle.op_text.specs.declared.terminal.Spelling.{Spelling}
 use Rattle.op_text.specs.declared.terminal.Spelling.TheVariants as sp
 use Rattle.op_text.specs.declared.fault.OpsKind.{OpsKind}
 use Rattle.op_text.specs.declared.fault.OpsKind.TheVariants.{Lex, Syntax}
-use Rattle.op_text.specs.declared.fault.Breach.{Breach}
+use Rattle.grammar.specs.declared.Breach as any
+use Rattle.grammar.specs.Machine as machine
 
 -- which reserved word a name is
 abbrev pub spelling_of : List ℕ → Spelling
@@ -53,22 +53,14 @@ opens [] = false
 opens (Bad f ∷ items) = false
 opens (Whole t ∷ items) = is_opening (terminal_of t.kind t.text)
 
--- a rule of this kind is broken at a token
-abbrev pub at_token : Lexeme → OpsKind → Breach
-at_token t why = record { at = Some t.start; kind = why }
-
--- a byte starts no token, and is the fault itself
-abbrev pub at_byte : LexFault → Breach
-at_byte f = record { at = Some f.at; kind = Lex }
-
--- the text ends where the grammar asks for more
-abbrev pub at_end : Breach
-at_end = record { at = None; kind = Syntax }
+-- a rule that is broken, and the place of the token, or none at the end of the text
+abbrev pub Breach : Type 0
+Breach = any.Breach OpsKind
 
 -- what is wrong where a token is needed and none stands
 abbrev pub no_token : List Item → Option Breach
-no_token [] = Some at_end
-no_token (Bad f ∷ items) = Some (at_byte f)
+no_token [] = Some (machine.at_end Syntax)
+no_token (Bad f ∷ items) = Some (machine.at_byte f Lex)
 no_token (Whole t ∷ items) = None
 
 -- the spellings of the tokens

@@ -2,7 +2,7 @@
 use Rattle.std.specs.Prelude.{ℕ, ◌+◌, ◌-◌, ◌==◌, List, length, take, count_by, Option, Some, None}
 use Rattle.std.specs.Prelude.{option_map, min}
 use Rattle.text_lex.specs.Lexical.{items_of}
-use Rattle.op_text.specs.declared.fault.Breach.{Breach}
+use Rattle.op_text.specs.Items.{Breach}
 use Rattle.op_text.specs.declared.fault.OpsFault.{OpsFault}
 use Rattle.op_text.specs.Rules.{first_breach}
 

@@ -3,13 +3,14 @@ use Rattle.std.specs.Prelude.{ℕ, zero, suc, ◌+◌, ◌-◌, Bool, true, fals
 use Rattle.std.specs.Prelude.{nat_le, List, [], ◌∷◌, ◌++◌, length, map, filter, Option, Some, None}
 use Rattle.std.specs.Prelude.{Result, Ok, Err, bytes_eq, codes, if◌then◌else◌}
 use Rattle.std.specs.List.{list_any}
-use Rattle.text_lex.specs.Lexical.{Item, Lexeme, Whole, Bad}
+use Rattle.text_lex.specs.Lexical.{Item}
 use Rattle.text_lex.specs.Spelled.{fits_name}
 use Rattle.op_text.specs.declared.fault.OpsKind.{OpsKind}
-use Rattle.op_text.specs.declared.fault.OpsKind.TheVariants.{Syntax, BadName, Twice, Unknown}
+use Rattle.grammar.specs.Machine as machine
+use Rattle.grammar.specs.Machine.{Language}
+use Rattle.op_text.specs.declared.fault.OpsKind.TheVariants.{Lex, Syntax, BadName, Twice, Unknown}
 use Rattle.op_text.specs.declared.fault.OpsKind.TheVariants.{NoResult, TooMany}
 use Rattle.op_text.specs.declared.fault.OpsKind.TheVariants as why
-use Rattle.op_text.specs.declared.fault.Breach.{Breach}
 use Rattle.op_text.specs.declared.terminal.Terminal.{Terminal}
 use Rattle.op_text.specs.declared.terminal.Terminal.TheVariants as t
 use Rattle.op_text.specs.declared.terminal.Spelling.{Spelling}
@@ -21,14 +22,14 @@ use Rattle.op_text.specs.declared.tree.Kind.TheVariants.{Word, Bit}
 use Rattle.op_text.specs.declared.tree.Param.{Param}
 use Rattle.op_text.specs.declared.word_ops.WordOp.{WordOp}
 use Rattle.op_text.specs.declared.word_ops.WordOp.TheVariants as o
-use Rattle.op_text.specs.Items.{terminal_of, opens, at_token, at_byte, at_end}
-use Rattle.op_text.specs.declared.grammar.Wanted.{Wanted}
-use Rattle.op_text.specs.declared.grammar.Wanted.TheVariants.{Ops, NewOp, NewParam, ParamKind}
-use Rattle.op_text.specs.declared.grammar.Wanted.TheVariants.{NewResult, ResultKind, FirstStmt}
-use Rattle.op_text.specs.declared.grammar.Wanted.TheVariants.{Stmts, WordOpName, Args, ArgName}
-use Rattle.op_text.specs.declared.grammar.Wanted.TheVariants.{MoreArgs, WordEnd, States, StateName}
-use Rattle.op_text.specs.declared.grammar.Wanted.TheVariants.{Lets, LetName, LetEnd, Assigns, Value}
-use Rattle.op_text.specs.declared.grammar.Wanted.TheVariants.{More, NewTarget}
+use Rattle.op_text.specs.Items.{Breach, terminal_of, is_opening}
+use Rattle.op_text.specs.declared.wanted.Wanted.{Wanted}
+use Rattle.op_text.specs.declared.wanted.Wanted.TheVariants.{Ops, NewOp, NewParam, ParamKind}
+use Rattle.op_text.specs.declared.wanted.Wanted.TheVariants.{NewResult, ResultKind, FirstStmt}
+use Rattle.op_text.specs.declared.wanted.Wanted.TheVariants.{Stmts, WordOpName, Args, ArgName}
+use Rattle.op_text.specs.declared.wanted.Wanted.TheVariants.{MoreArgs, WordEnd, States, StateName}
+use Rattle.op_text.specs.declared.wanted.Wanted.TheVariants.{Lets, LetName, LetEnd, Assigns, Value}
+use Rattle.op_text.specs.declared.wanted.Wanted.TheVariants.{More, NewTarget}
 use Rattle.op_text.specs.Grammar.{follow}
 use Rattle.op_text.specs.WordOps.{forms, op_named, lacks, is_begun, is_part, is_whole, filled}
 use Rattle.op_text.specs.WordOps.{same_kind, second_kind, second_gives}
@@ -515,37 +516,36 @@ rules_at More s t.Comma text o = comma_rules s s.block.missing
 rules_at More s t.Closes text o = close_rules s s.block.missing
 rules_at w s u text o = Ok s
 
+-- the text may end where an op is wanted
+abbrev pub may_end : Wanted → Bool
+may_end Ops = true
+may_end w = false
+
+-- Operation texts, as a language. The "(" after a name makes it a gate.
+abbrev pub operation_texts : Language Wanted Terminal Scope OpsKind
+operation_texts = record {
+  seen = λ u. terminal_of u.kind u.text;
+  opens = is_opening;
+  follow = follow;
+  rules = λ w s u opened. rules_at w s (terminal_of u.kind u.text) u.text opened;
+  first = Ops;
+  may_end = may_end;
+  lex = Lex;
+  syntax = Syntax;
+}
+
 -- the grammar is asked first, and the other rules only where it allows the token
 abbrev pub with_rules : Option (List Wanted) → Result Scope OpsKind
     → Result (List Wanted × Scope) OpsKind
-with_rules None rules = Err Syntax
-with_rules (Some wanted) (Err kind) = Err kind
-with_rules (Some wanted) (Ok s) = Ok (wanted, s)
+with_rules wanted rules = machine.with_rules Syntax wanted rules
 
 -- a token, where this is wanted
 abbrev pub step : Wanted → Scope → Terminal → List ℕ → Bool → Result (List Wanted × Scope) OpsKind
 step w s u text opened = with_rules (follow w u opened) (rules_at w s u text opened)
 
--- the end of the text, where this is wanted
-abbrev pub ends : List Wanted → Option Breach
-ends [] = None
-ends (Ops ∷ wanted) = None
-ends (w ∷ wanted) = Some at_end
-
--- what follows a token that meets the rules; one that does not is the first breach
-abbrev pub after : Result (List Wanted × Scope) OpsKind → Lexeme
-    → (List Wanted → Scope → Option Breach) → Option Breach
-after (Ok r) u go = go r.0 r.1
-after (Err kind) u go = Some (at_token u kind)
-
 -- The first token that breaks a rule, if any, where all this is wanted.
-unfoldable pub breach_of : List Wanted → Scope → List Item → Option Breach
-breach_of wanted s [] = ends wanted
-breach_of wanted s (Bad f ∷ items) = Some (at_byte f)
-breach_of [] s (Whole u ∷ items) = Some (at_token u Syntax)
-breach_of (w ∷ wanted) s (Whole u ∷ items) =
-    after (step w s (terminal_of u.kind u.text) u.text (opens items)) u
-    (λ front scope. breach_of (front ++ wanted) scope items)
+abbrev pub breach_of : List Wanted → Scope → List Item → Option Breach
+breach_of wanted s items = machine.breach_of operation_texts wanted s items
 
 -- the first token of a text that breaks a rule, if any
 abbrev pub first_breach : List Item → Option Breach

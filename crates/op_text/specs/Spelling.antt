@@ -11,7 +11,7 @@ use Rattle.op_text.specs.declared.tree.Param.{Param}
 use Rattle.op_text.specs.declared.tree.State.{State}
 use Rattle.op_text.specs.WordOps.{op_text}
 use Rattle.op_text.specs.Items.{spelling_of}
-use Rattle.op_text.specs.declared.grammar.Wanted.{Wanted}
+use Rattle.op_text.specs.declared.wanted.Wanted.{Wanted}
 use Rattle.op_text.specs.Rules.{Scope, is_plain, breach_of, first_breach}
 use Rattle.op_text.specs.Rules.{MAX_DEPTH}
 use Rattle.op_text.specs.Language.{Term, Nought, Unity, Named, Negation, Conjunction, Disjunction}
@@ -65,10 +65,6 @@ unplaced text = Whole (record { kind = kind_of_text text; text = text; start = 0
 -- what the rules read where these are the spellings
 abbrev pub items_spelled : List (List ℕ) → List Item
 items_spelled texts = map unplaced texts
-
--- the scope of a block whose gates weigh so much more
-abbrev pub heavier : Scope → ℕ → Scope
-heavier s w = record s { block = record s.block { weight = s.block.weight + w } }
 
 -- an item without its place
 abbrev pub bare : Item → Item

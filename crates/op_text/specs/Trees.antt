@@ -1,22 +1,12 @@
 -- The texts of the grammar, whatever their names are and however many parts they have. Each
 -- definition gives the terminals of a part in front of those that follow it.
-use Rattle.std.specs.Prelude.{◌≡◌, map, Bool, true, false, List, [], ◌∷◌, ◌++◌, Some, IsSome}
-use Rattle.std.specs.Prelude.{◌↔◌, ◌⊎◌, Option, None}
-use Rattle.text_lex.specs.declared.token.LexFault.{LexFault}
-use Rattle.text_lex.specs.Lexical.{Item, Lexeme, Whole, Bad}
-use Rattle.op_text.specs.declared.fault.OpsKind.{OpsKind}
-use Rattle.op_text.specs.declared.fault.OpsKind.TheVariants.{Lex, Syntax}
-use Rattle.op_text.specs.declared.fault.Breach.{Breach}
+use Rattle.std.specs.Prelude.{◌≡◌, Bool, true, false, List, [], ◌∷◌, Option, Some, None}
 use Rattle.op_text.specs.declared.terminal.Terminal.{Terminal}
 use Rattle.op_text.specs.declared.terminal.Terminal.TheVariants as t
 use Rattle.op_text.specs.declared.terminal.Spelling.{Spelling}
 use Rattle.op_text.specs.declared.terminal.Spelling.TheVariants as sp
 use Rattle.op_text.specs.declared.tree.Kind.{Kind}
 use Rattle.op_text.specs.declared.tree.Kind.TheVariants.{Word, Bit}
-use Rattle.op_text.specs.Items.{terminal_of, at_token, at_byte, at_end}
-use Rattle.op_text.specs.declared.grammar.Wanted.TheVariants.{Ops}
-use Rattle.op_text.specs.Grammar.{allowed}
-use Rattle.op_text.specs.Rules.{first_breach}
 
 mutual
   -- a value: a constant, a name, or a gate with its arguments
@@ -185,60 +175,3 @@ text_of ops = in_turn op_text ops []
 -- terminals are a whole text of the grammar
 abbrev pub IsText : List Terminal → Type 0
 IsText ts = (ops : List OpTree) × (ts ≡ text_of ops)
-
--- some text of the grammar starts with these terminals
-abbrev pub IsViable : List Terminal → Type 0
-IsViable ts = (ops : List OpTree) × (more : List Terminal) × (text_of ops ≡ ts ++ more)
-
--- The grammar's steps accept exactly the grammar's texts, and they allow terminals exactly where a
--- text of the grammar starts with them.
-pub record IsTheGrammar : Type 0 where
-  pub accepts : (ts : List Terminal) → (allowed (Ops ∷ []) ts ≡ Some (Ops ∷ [])) ↔ IsText ts
-  pub allows : (ts : List Terminal) → IsSome (allowed (Ops ∷ []) ts) ↔ IsViable ts
-
--- the tokens of a text in which every byte belongs to one
-abbrev pub whole : List Lexeme → List Item
-whole ts = map Whole ts
-
--- tokens as the grammar sees them
-abbrev pub terminals_of : List Lexeme → List Terminal
-terminals_of ts = map (λ u. terminal_of u.kind u.text) ts
-
--- the tokens are a text of the grammar
-abbrev pub IsGrammatical : List Lexeme → Type 0
-IsGrammatical ts = IsText (terminals_of ts)
-
--- some text of the grammar begins with these tokens
-abbrev pub BeginsText : List Lexeme → Type 0
-BeginsText ts = IsViable (terminals_of ts)
-
--- What the grammar alone finds in items: nothing, where they are a text of it; the end, where they
--- are the beginning of one and no whole one; the first token with which no text of it begins; or a
--- byte that starts no token, where the tokens before it begin a text.
-pub data GrammarFinds : List Item → Option Breach → Type 0 where
-  Text : (ts : List Lexeme) → IsGrammatical ts → GrammarFinds (whole ts) None
-  CutShort : (ts : List Lexeme) → BeginsText ts → (IsGrammatical ts → ⊥)
-      → GrammarFinds (whole ts) (Some at_end)
-  Wrong : (before : List Lexeme) (token : Lexeme) (following : List Item) → BeginsText before
-      → (BeginsText (before ++ token ∷ []) → ⊥)
-      → GrammarFinds (whole before ++ (Whole token ∷ following)) (Some (at_token token Syntax))
-  Strange : (before : List Lexeme) (f : LexFault) (following : List Item) → BeginsText before
-      → GrammarFinds (whole before ++ (Bad f ∷ following)) (Some (at_byte f))
-
--- a rule beside the grammar's
-abbrev pub is_other : OpsKind → Bool
-is_other Lex = false
-is_other Syntax = false
-is_other why = true
-
--- Another rule than the grammar's is broken at a token; up to it they begin a text of the grammar.
-pub data BreaksRule : List Item → Option Breach → Type 0 where
-  Broken : (before : List Lexeme) (token : Lexeme) (following : List Item) (kind : OpsKind)
-      → is_other kind ≡ true → BeginsText (before ++ token ∷ [])
-      → BreaksRule (whole before ++ (Whole token ∷ following)) (Some (at_token token kind))
-
--- The first breach of items is another rule's, or exactly what the grammar finds in them: so there
--- is none exactly where they are a text of the grammar and no rule is broken in it.
-pub record SyntaxIsTheGrammars (items : List Item) : Type 0 where
-  pub first : BreaksRule items (first_breach items) ⊎ GrammarFinds items (first_breach items)
-  pub one : (a b : Option Breach) → GrammarFinds items a → GrammarFinds items b → a ≡ b

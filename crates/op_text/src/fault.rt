@@ -13,13 +13,6 @@ pub enum OpsKind {
     TooMany,
 }
 
-/// A rule that is broken, and the place of the token, or none at the end of the text.
-#[derive(Clone, Copy, PartialEq, Eq)]
-pub struct Breach {
-    pub at: Option<usize>,
-    pub kind: OpsKind,
-}
-
 /// A rule that is broken, by line.
 #[derive(Clone, Copy, Debug, PartialEq, Eq)]
 pub struct OpsFault {

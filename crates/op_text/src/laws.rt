@@ -2,7 +2,9 @@
 
 ghost use Rattle.std.specs.Prelude.{List};
 ghost use Rattle.text_lex.specs.Lexical.{Item};
-ghost use Rattle.op_text.specs.Trees.{IsTheGrammar, SyntaxIsTheGrammars};
+ghost use Rattle.grammar.specs.Laws.{IsTheGrammar, SyntaxIsTheGrammars};
+ghost use Rattle.op_text.specs.Rules.{nothing_yet, operation_texts};
+ghost use Rattle.op_text.specs.Trees.{IsText};
 ghost use Rattle.op_text.specs.WordOps.{FirstSettles};
 ghost use Rattle.op_text.specs.Meaning.{MeaningFits};
 ghost use Rattle.op_text.specs.Spelling.{PlacesDoNotMatter, SpelledOnce};
@@ -11,12 +13,13 @@ ghost use Rattle.op_text.specs.OpsOf.{OpsOfATextAreOne, OpsOfATextMeet, TextsOfO
 
 /// What the grammar's steps accept is the grammar's texts, and they allow what these begin with.
 pub fn grammar_is_followed()
-    ensures { IsTheGrammar }
+    ensures { IsTheGrammar operation_texts IsText }
 {}
 
 /// The first breach of items is another rule's, or exactly what the grammar finds in them.
 pub fn syntax_is_the_grammars()
-    ensures { (items : List Item) → SyntaxIsTheGrammars items }
+    ensures { (items : List Item) → SyntaxIsTheGrammars operation_texts IsText nothing_yet
+        items }
 {}
 
 /// Whether tokens break a rule does not rest on their places.

@@ -13,10 +13,11 @@ use Rattle.op_text.specs.Meaning.{meaning}
 use Rattle.uprog_code.specs.Machine.{Trace, Ended, Stuck}
 use Rattle.op_text.specs.Rules.{breach_of}
 use Rattle.op_text.specs.Spelling.{MeetRules}
-use Rattle.bit_rows.specs.Bits as rows
-use Rattle.op_text.specs.declared.word_ops.WordOp.TheVariants as o
 use Rattle.scan_model.specs.Operations.{of_two_sources, of_one_source, scan_operations, scan_text}
 use Rattle.scan_model.specs.Laws.{Offers, OffersScan, MeansScan}
+use Rattle.bit_rows.specs.Bits as rows
+use Rattle.grammar.specs.Machine as machine
+use Rattle.op_text.specs.declared.word_ops.WordOp.TheVariants as o
 
 low_bit : (v : ℕ) → bit_number (v % 2 == 1) + 2 * (v / 2) ≡ v
 low_bit v = grind (arith, nat_tests)
@@ -82,7 +83,7 @@ or_means false false = refl
 
 -- the ops of scans meet the rules of operation texts
 pub text_meets : MeetRules scan_operations
-unfolding breach_of
+unfolding machine.breach_of
 text_meets = refl
 
 pub text_means : MeansScan (meaning_in scan_text)

@@ -112,7 +112,7 @@ pub record Scans (g : Geometry) (operations : Routines) (meaning : List ℕ → 
       → IsRoom w
 
 -- Where the checks pass and no instruction is refused, one new object is 1 exactly where the query
--- holds, and all else is as it was; and an instruction is refused only for want of room
+-- holds, and all else is as it was; and an instruction is refused only where there is no room
 abbrev pub ScanInWords : Type 0
 ScanInWords =
     (g : Geometry) (operations : Routines) (meaning : List ℕ → ℕ → List ℕ

@@ -1,5 +1,5 @@
 use Rattle.std.proofs.Common.{[], ◌∷◌, ◌∙◌, ap, codes}
-use Rattle.op_text.specs.declared.grammar.Wanted.TheVariants as w
+use Rattle.op_text.specs.declared.wanted.Wanted.TheVariants as w
 use Rattle.op_text.specs.Spelling.{name_text}
 use Rattle.op_lang.proofs.Taking.{exits, fails_along}
 use Rattle.op_lang.proofs.Loops.{next_part}

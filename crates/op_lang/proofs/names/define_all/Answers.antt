@@ -1,5 +1,4 @@
-use Rattle.std.proofs.Common.{ap, List, ℕ}
-use Rattle.op_text.specs.declared.tree.Param.{Param}
+use Rattle.op_lang.proofs.Common.{ap, List, ℕ, Param}
 use Rattle.op_lang.proofs.Loops.{added-more, mapped-more}
 use Rattle.op_lang.proofs.names.define_all.Goals as goal
 

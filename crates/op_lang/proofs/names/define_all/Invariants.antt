@@ -1,4 +1,4 @@
-use Rattle.std.proofs.Common.{◌≡◌, ◌++◌, map, take}
+use Rattle.op_lang.proofs.Common.{◌≡◌, ◌++◌, map, take}
 use Rattle.op_lang.proofs.names.define_all.Given as goal
 
 abbrev pub invariant-loop-name : goal.invariant-loop-name

@@ -1,4 +1,4 @@
-use Rattle.std.proofs.Common.{◌≡◌, ◌++◌, take}
+use Rattle.op_lang.proofs.Common.{◌≡◌, ◌++◌, take}
 use Rattle.op_lang.proofs.names.define_params.Given as goal
 
 abbrev pub invariant-loop-param : goal.invariant-loop-param

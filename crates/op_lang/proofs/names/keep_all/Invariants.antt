@@ -1,4 +1,4 @@
-use Rattle.std.proofs.Common.{◌≡◌, ◌++◌, take}
+use Rattle.op_lang.proofs.Common.{◌≡◌, ◌++◌, take}
 use Rattle.op_lang.proofs.names.keep_all.Given as goal
 
 abbrev pub invariant-loop-name : goal.invariant-loop-name

@@ -1,4 +1,4 @@
-use Rattle.op_text.specs.declared.tree.Param.{Param}
+use Rattle.op_lang.proofs.Common.{Param}
 use Rattle.op_lang.proofs.Loops.{added-more, mapped-more}
 use Rattle.op_lang.proofs.names.keep_names.Goals as goal
 

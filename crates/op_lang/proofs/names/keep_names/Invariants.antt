@@ -1,5 +1,4 @@
-use Rattle.std.proofs.Common.{◌≡◌, ◌++◌, map, take}
-use Rattle.op_text.specs.declared.tree.Param.{Param}
+use Rattle.op_lang.proofs.Common.{◌≡◌, ◌++◌, map, take, Param}
 use Rattle.op_lang.proofs.names.keep_names.Given as goal
 
 abbrev pub invariant-loop-param : goal.invariant-loop-param

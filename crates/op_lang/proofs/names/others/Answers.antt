@@ -1,5 +1,4 @@
-use Rattle.std.proofs.Common.{ap, sym, not, Bool, List, ℕ, ◌∙◌}
-use Rattle.op_text.specs.Rules.{is_among}
+use Rattle.op_lang.proofs.Common.{ap, sym, not, Bool, List, ℕ, ◌∙◌, is_among}
 use Rattle.op_lang.proofs.Loops.{passed-more, passed-same}
 use Rattle.op_lang.proofs.names.others.Goals as goal
 use Rattle.op_lang.proofs.names.others.Goals.{then-not-is_among+in_ok-keep, else-not-is_among}

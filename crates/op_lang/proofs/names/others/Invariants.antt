@@ -1,5 +1,4 @@
-use Rattle.std.proofs.Common.{◌≡◌, filter, not, take}
-use Rattle.op_text.specs.Rules.{is_among}
+use Rattle.op_lang.proofs.Common.{◌≡◌, filter, not, take, is_among}
 use Rattle.op_lang.proofs.names.others.Given as goal
 
 abbrev pub invariant-loop-name : goal.invariant-loop-name

@@ -1,5 +1,5 @@
 use Rattle.std.proofs.Common.{[], ◌∷◌}
-use Rattle.op_text.specs.declared.grammar.Wanted.TheVariants as w
+use Rattle.op_text.specs.declared.wanted.Wanted.TheVariants as w
 use Rattle.op_lang.proofs.Taking.{exits, continues}
 use Rattle.op_lang.proofs.parse.one_op.Goals as goal
 

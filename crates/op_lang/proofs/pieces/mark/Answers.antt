@@ -1,4 +1,4 @@
-use Rattle.std.proofs.Common.{[], ◌∷◌}
+use Rattle.op_lang.proofs.Common.{[], ◌∷◌}
 use Rattle.op_lang.proofs.Taking.{exits}
 use Rattle.op_lang.proofs.Single.{mark_took}
 use Rattle.op_lang.proofs.pieces.mark.Goals as goal

@@ -1,4 +1,4 @@
-use Rattle.std.proofs.Common.{[], ◌∷◌}
+use Rattle.op_lang.proofs.Common.{[], ◌∷◌}
 use Rattle.op_lang.proofs.Taking.{exits}
 use Rattle.op_lang.proofs.Single.{name_took, name_follows, no_none}
 use Rattle.op_lang.proofs.pieces.name.Goals as goal

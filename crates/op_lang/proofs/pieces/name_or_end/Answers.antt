@@ -1,4 +1,4 @@
-use Rattle.std.proofs.Common.{[], ◌∷◌, sym}
+use Rattle.op_lang.proofs.Common.{[], ◌∷◌, sym}
 use Rattle.op_lang.specs.Pieces.{after_name_or_end}
 use Rattle.op_lang.proofs.Taking.{exits}
 use Rattle.op_lang.proofs.Single.{end_took, listed_follows, listed_took, no_none}

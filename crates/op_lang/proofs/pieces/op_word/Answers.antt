@@ -1,5 +1,5 @@
-use Rattle.std.proofs.Common.{[], ◌∷◌}
-use Rattle.op_text.specs.declared.grammar.Wanted.TheVariants as w
+use Rattle.op_lang.proofs.Common.{[], ◌∷◌}
+use Rattle.op_text.specs.declared.wanted.Wanted.TheVariants as w
 use Rattle.op_lang.proofs.Taking.{exits}
 use Rattle.op_lang.proofs.Single.{op_took}
 use Rattle.op_lang.proofs.pieces.op_word.Goals as goal

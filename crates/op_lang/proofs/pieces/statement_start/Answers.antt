@@ -1,4 +1,4 @@
-use Rattle.std.proofs.Common.{[], ◌∷◌, sym}
+use Rattle.op_lang.proofs.Common.{[], ◌∷◌, sym}
 use Rattle.op_lang.specs.Pieces.{after_start}
 use Rattle.op_lang.proofs.Taking.{exits}
 use Rattle.op_lang.proofs.Single.{end_statement_took, serial_took, word_took, word_statement}

@@ -1,5 +1,5 @@
-use Rattle.std.proofs.Common.{[], ◌∷◌, ◌∙◌, sym, ap}
-use Rattle.op_text.specs.declared.grammar.Wanted.TheVariants as w
+use Rattle.op_lang.proofs.Common.{[], ◌∷◌, ◌∙◌, sym, ap}
+use Rattle.op_text.specs.declared.wanted.Wanted.TheVariants as w
 use Rattle.op_lang.proofs.Taking.{exits, took_left}
 use Rattle.op_text.proofs.Rows.{op_spelled}
 use Rattle.op_lang.proofs.Single.{word_op_took, word_op_follows}

@@ -1,5 +1,5 @@
 use Rattle.std.proofs.Common.{[], ◌∷◌, ◌∙◌, ap, codes}
-use Rattle.op_text.specs.declared.grammar.Wanted.TheVariants as w
+use Rattle.op_text.specs.declared.wanted.Wanted.TheVariants as w
 use Rattle.op_text.specs.Spelling.{term_text}
 use Rattle.op_text.specs.Language.{term}
 use Rattle.op_lang.specs.Reading.{left}

@@ -1,5 +1,5 @@
 use Rattle.std.proofs.Common.{length, [], ◌∷◌}
-use Rattle.op_text.specs.declared.grammar.Wanted.TheVariants as w
+use Rattle.op_text.specs.declared.wanted.Wanted.TheVariants as w
 use Rattle.op_lang.specs.Reading.{left}
 use Rattle.op_lang.proofs.Loops.{HasTurns}
 use Rattle.op_text.specs.Spelling.{equation_text}

@@ -1,5 +1,5 @@
 use Rattle.std.proofs.Common.{length, arith, [], ◌∷◌, refl, ap}
-use Rattle.op_text.specs.declared.grammar.Wanted.TheVariants as w
+use Rattle.op_text.specs.declared.wanted.Wanted.TheVariants as w
 use Rattle.op_text.specs.Spelling.{statement_text}
 use Rattle.op_text.specs.Language.{statement}
 use Rattle.op_lang.specs.Reading.{left}

@@ -1,5 +1,5 @@
 use Rattle.std.proofs.Common.{length, arith, [], ◌∷◌, ◌∙◌, ap, codes}
-use Rattle.op_text.specs.declared.grammar.Wanted.TheVariants as w
+use Rattle.op_text.specs.declared.wanted.Wanted.TheVariants as w
 use Rattle.op_text.specs.Spelling.{let_text}
 use Rattle.op_text.specs.Language.{equation}
 use Rattle.op_lang.specs.Reading.{left}

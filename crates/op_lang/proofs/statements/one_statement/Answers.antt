@@ -1,5 +1,5 @@
 use Rattle.std.proofs.Common.{[], ◌∷◌}
-use Rattle.op_text.specs.declared.grammar.Wanted.TheVariants as w
+use Rattle.op_text.specs.declared.wanted.Wanted.TheVariants as w
 use Rattle.op_lang.specs.Parts.{after_statement}
 use Rattle.op_lang.proofs.Taking.{exits, fails_along}
 use Rattle.op_lang.proofs.statements.one_statement.Goals as goal

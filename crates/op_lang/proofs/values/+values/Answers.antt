@@ -1,6 +1,6 @@
 use Rattle.std.proofs.Common.{[], ◌∷◌, ◌∙◌, ap, codes}
-use Rattle.op_text.specs.declared.grammar.Wanted.TheVariants as w
-use Rattle.op_lang.proofs.Taking.{exits, fails_along, then_memory, spells_by}
+use Rattle.op_text.specs.declared.wanted.Wanted.TheVariants as w
+use Rattle.op_lang.proofs.Taking.{exits, continues, fails_along, then_memory, spells_by}
 use Rattle.op_text.specs.Language.{term, Majority}
 use Rattle.op_text.specs.Spelling.{term_text}
 use Rattle.op_lang.proofs.values.+values.Goals as goal
@@ -89,3 +89,10 @@ three_arguments-returns-clause-spells t c = λ outer h.
     (c.in_ok-a.ensures.missing ∙ h)
     ∙ ap (λ l. codes "," ∷ l) (c.in_ok-b.ensures.spells outer
     (c.in_ok-comma.ensures.missing 1 outer (c.in_ok-a.ensures.missing ∙ h))))))
+
+pub value-returns-in-Gate-clause-moves : goal.value-returns-in-Gate-clause-moves
+value-returns-in-Gate-clause-moves t c =
+    continues (w.Value ∷ []) (w.GateOpen ∷ w.Value ∷ w.More ∷ []) [] _ _ _ _
+    (λ more. let m = rw c.in-Gate.is at (c.in_ok-leaf.ensures.moves more) in m)
+    (c.arguments.ensures.moves c.args.parser.now.scope.block.missing
+    (let m = rw c.in-Gate.is at c.in_ok-leaf.ensures.missing in m))

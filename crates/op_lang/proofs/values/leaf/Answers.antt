@@ -1,5 +1,5 @@
 use Rattle.std.proofs.Common.{[], ◌∷◌, sym}
-use Rattle.op_text.specs.declared.grammar.Wanted.TheVariants as w
+use Rattle.op_text.specs.declared.wanted.Wanted.TheVariants as w
 use Rattle.op_lang.specs.Pieces.{after_leaf}
 use Rattle.op_lang.proofs.Taking.{exits}
 use Rattle.op_lang.proofs.Single.{bit_took, gate_known, gate_took, read_took}

@@ -1,5 +1,5 @@
-use Rattle.op_text.proofs.Complete.{is_the_grammar}
+use Rattle.op_text.proofs.Complete.{grammar}
 use Rattle.op_text.proofs.laws.grammar_is_followed.Goals as goal
 
 pub returns : goal.returns
-returns c = is_the_grammar
+returns c = grammar
