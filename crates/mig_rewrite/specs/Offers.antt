@@ -5,7 +5,9 @@ use Rattle.bit_rows.specs.Bits.{flip_if, majority}
 use Rattle.mig_graph.specs.declared.Lit.{Lit}
 use Rattle.mig_graph.specs.Graph.{Graph, start, value}
 use Rattle.mig_graph.specs.Outputs.{lit_at}
+use Rattle.mig_graph.specs.Reduced.{IsReduced}
 use Rattle.mig_rewrite.specs.declared.sketch.Sketch.{Sketch}
+use Rattle.mig_rewrite.specs.Reach.{AreReached}
 
 -- the value of a literal: twice the number of its node, and one more where it is inverted
 abbrev pub short_value : (ℕ → Bool) → ℕ → Bool
@@ -43,9 +45,14 @@ pub record IsOffered (s : Sketch) (g : Graph) (outs : List Lit) : Type 0 where
   pub values : (bits : ℕ → Bool) (j : ℕ) → j < length outs
       → value g bits (lit_at outs j) ≡ output_value s bits j
 
--- the sketch has more nodes than the graph
-abbrev pub IsLarger : Graph → Sketch → Type 0
-IsLarger g s = length g.nodes < s.count
+-- a reduced graph that the sketch stands for has more nodes than the graph
+pub record IsLarger (g : Graph) (s : Sketch) : Type 0 where
+  pub graph : Graph
+  pub outs : List Lit
+  pub offered : IsOffered s graph outs
+  pub reduced : IsReduced graph outs
+  pub reached : AreReached graph outs
+  pub more : length g.nodes < length graph.nodes
 
 -- the literals have the values of the constant, the inputs and the first k nodes
 pub record Stands (g : Graph) (bits : ℕ → Bool) (lits : List Lit) (s : Sketch) (k : ℕ) : Type 0

@@ -106,16 +106,9 @@ pub fn graph_of(offer: &Sketch, alloc: Global) -> Result<MigOuts, NoMemory>
     reduced(&made, alloc)
 }
 
-/// Whether a sketch has no more nodes than a graph.
-fn is_no_larger(m: &MigOuts, offer: &Sketch) -> bool
-    ensures { IsTrue result ↔ (offer.now.count ≤ length m.now.mig.nodes) }
-{
-    m.mig.inputs() as u32 + 1 + offer.count as u32 <= m.mig.size()
-}
-
 /// The graph that a sketch stands for, reduced, where each output keeps its value on every input
-/// and the sketch has no more nodes than the graph. Graphs of more than 12 inputs are not compared,
-/// and none is taken.
+/// and it has no more nodes than the graph. Graphs of more than 12 inputs are not compared, and
+/// none is taken.
 pub fn kept(m: &MigOuts, offer: &Sketch, alloc: Global) -> Result<Option<MigOuts>, NoMemory>
     requires { AreNamed m.now.mig m.now.outs.items }
     ensures keeps { IfOk result (λ o. IfSome o (λ r. KeepsOutputs m.now.mig m.now.outs.items r.mig
@@ -125,15 +118,15 @@ pub fn kept(m: &MigOuts, offer: &Sketch, alloc: Global) -> Result<Option<MigOuts
     ensures reduced { IfOk result (λ o. IfSome o (λ r. IsReduced r.mig r.outs.items)) }
     ensures reached { IfOk result (λ o. IfSome o (λ r. AreReached r.mig r.outs.items)) }
     ensures offered { IfOk result (λ o. IfSome o (λ r. IsOffered offer.now r.mig r.outs.items)) }
-    // None of a sketch that keeps the outputs only where it has more nodes than the graph.
+    // None of a sketch that keeps the outputs only where what it is reduced to has more nodes.
     ensures dropped { IfOk result (λ o. IfNone o (IsRight m.now.mig m.now.outs.items offer.now
         → IsLarger m.now.mig offer.now)) }
 {
-    if !is_no_larger(m, offer) {
-        return Ok(None);
-    }
     let made = built(offer, alloc)?;
     let new = reduced(&made, alloc)?;
+    if new.mig.size() > m.mig.size() {
+        return Ok(None);
+    }
     if keeps_outputs(m, &new, alloc)? {
         Ok(Some(new))
     } else {
