@@ -17,7 +17,7 @@ use Rattle.cmd_trace.specs.declared.events.Head.TheVariants as heads
 use Rattle.cmd_trace.specs.declared.events.Found.{Found}
 use Rattle.cmd_trace.specs.declared.events.Found.TheVariants as found
 
--- why no trace was made of a file: its first fault, or want of memory
+-- why no trace was made of a file: its first fault, or out of memory
 abbrev pub IsFault : {Y : Type 0} → TraceNo → Result Y TraceFault → Type 0
 IsFault (no.Fault f) read = read ≡ Err f
 IsFault no.NoMemory read = Unit {0}

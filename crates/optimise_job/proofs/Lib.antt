@@ -7,4 +7,3 @@ pub mod Offers
 pub mod Pushed
 pub mod Right
 pub mod Sizes
-pub mod Written

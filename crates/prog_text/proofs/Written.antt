@@ -1,7 +1,5 @@
 -- What was written, and what is left.
-use Rattle.std.proofs.Common.{◌≡◌, ℕ, ◌+◌, ◌<◌, List, ◌∷◌, ◌++◌, Some, length, drop, flat_map, ap}
-use Rattle.std.proofs.Common.{sym, ◌∙◌}
-use Rattle.std.specs.Prelude.{slice_index_or}
+use Rattle.std.proofs.Common.{◌≡◌, ℕ, ◌+◌, List, ◌∷◌, ◌++◌, Some, drop, flat_map, ap, sym, ◌∙◌}
 use Rattle.std.proofs.lemmas.List.{append_assoc, drop_more}
 use Rattle.std.proofs.lemmas.Option.{get_or_from_slice_get, slice_get_within}
 use Rattle.std.specs.List.{slice_get}
@@ -32,14 +30,3 @@ part_more {A} text parts k part out new all e written before =
     ap (λ (xs : List ℕ). xs ++ flat_map text (drop (k + 1) parts)) written
     ∙ append_assoc out (text part) (flat_map text (drop (k + 1) parts))
     ∙ ap (λ (xs : List A). out ++ flat_map text xs) (sym (rest_from parts k part e)) ∙ before
-
--- the text of one more part that is left
-pub next_part : {A : Type 0} (text : A → List ℕ) (parts : List A) (k : ℕ) (part : A)
-    (out new all : List ℕ) → k < length parts → part ≡ slice_index_or parts k part
-    → new ≡ out ++ text part → out ++ flat_map text (drop k parts) ≡ all
-    → new ++ flat_map text (drop (k + 1) parts) ≡ all
-next_part {A} text parts k part out new all lt e written before =
-    ap (λ (xs : List ℕ). xs ++ flat_map text (drop (k + 1) parts)) written
-    ∙ append_assoc out (text part) (flat_map text (drop (k + 1) parts))
-    ∙ ap (λ (xs : List A). out ++ flat_map text xs)
-    (ap (λ y. y ∷ drop (k + 1) parts) e ∙ sym (drop_more parts k part lt)) ∙ before

@@ -8,7 +8,7 @@ use Rattle.uprog_bin.proofs.Common.{Shape, Microprogram, shape_of, is_legal, is_
 use Rattle.uprog_bin.proofs.Common.{◌>>=◌, rule, bind_ok, ok_is, rule_ok, bytes_takes}
 use Rattle.std.proofs.Common.{Option}
 use Rattle.std.specs.List.{position_or_len}
-use Rattle.std.proofs.lemmas.Option.{get_or_from_slice_get}
+use Rattle.std.proofs.lemmas.Option.{get_or_from_slice_get, slice_get_read}
 use Rattle.std.proofs.lemmas.List.{drop-take, take-take, length-take, length-drop}
 use Rattle.uprog_code.specs.Legal.{IsLegalCode}
 use Rattle.uprog_code.specs.declared.code.Uop.TheVariants as uop
@@ -443,3 +443,17 @@ pub found_in : (v : ℕ) (bytes : List ℕ) (listed : List Listed) (seen : File)
 found_in v bytes listed seen k l is h at = subst
     (λ (f : File). IsFound bytes f k l.head.name (shape_of l.head) (8 + 27 * length listed + 8
     * l.start) l.count) is (found v bytes listed k l h at)
+
+-- and of a slice that shows what is listed
+pub found_seen : (v : ℕ) (bytes : List ℕ) (listed xs : List Listed) (seen : File) (k at : ℕ)
+    (l : Listed) → file_of bytes ≡ seen → IsOpened bytes v listed → xs ≡ listed → at ≡ k
+    → k < length seen.programs → l ≡ slice_index_or xs at l
+    → IsFound bytes seen k l.head.name (shape_of l.head) (8 + 27 * length xs + 8 * l.start) l.count
+found_seen v bytes listed xs seen k at l is h same e lt there =
+    let many = entries_are v bytes listed seen is h in
+    let below : at < length xs = omega (arith, many, lt, e, ap length same) in
+    let read : slice_get listed k ≡ Some l =
+    ap (λ (ys : List Listed). slice_get ys k) (sym same) ∙ ap (slice_get xs) (sym e)
+    ∙ slice_get_read xs (length xs) at l refl below there in
+    subst (λ (ys : List Listed). IsFound bytes seen k l.head.name (shape_of l.head)
+    (8 + 27 * length ys + 8 * l.start) l.count) (sym same) (found_in v bytes listed seen k l is h read)

@@ -1,9 +1,7 @@
 -- What two runs and their difference say of an entry
-use Rattle.verify_core.proofs.Common.{◌≢◌, ℕ, ◌*◌, ◌<◌, ◌≤◌, Bool, List, length, ap, arith, subst}
-use Rattle.verify_core.proofs.Common.{sym, ◌∙◌, Kind, Shape, Issue, Gives, AreGood, Edge, Node}
-use Rattle.verify_core.proofs.Common.{Keeps, keeps-both, value-kept, Cells, canonical_rows}
-use Rattle.verify_core.proofs.Common.{result_rows}
-use Rattle.std.specs.Prelude.{◌≡◌}
+use Rattle.verify_core.proofs.Common.{◌≢◌, ℕ, ◌<◌, Bool, List, subst, sym, ◌∙◌, Shape, Issue, Gives}
+use Rattle.verify_core.proofs.Common.{AreGood, Edge, Node, Keeps, keeps-both, value-kept, Cells}
+use Rattle.verify_core.proofs.Common.{◌≡◌}
 use Rattle.verify_core.specs.declared.case.Case.{Case}
 use Rattle.verify_core.specs.declared.start.Begin.{Begin}
 use Rattle.verify_core.specs.declared.start.Begin.TheVariants.{Variables}
@@ -12,18 +10,6 @@ use Rattle.verify_core.specs.Verdicts.{Fails, SameKinds}
 use Rattle.verify_core.proofs.Runs.{results-kept, run-kept}
 use Rattle.verify_core.proofs.Right.{right}
 use Rattle.verify_core.proofs.Wrong.{apart-by, wrong}
-
--- the results' rows are among those of the bank
-pub rows-inside : (a h : Shape) (n rows : ℕ) → h ≡ a → rows ≡ canonical_rows a n
-    → result_rows h n ≤ rows
-rows-inside a h n rows e long = rw e (omega (arith, long))
-
-pub rows-inside-other : (a b h : Shape) (n rows : ℕ) → h ≡ a → SameKinds a b
-    → rows ≡ canonical_rows b n → result_rows h n ≤ rows
-rows-inside-other a b h n rows e same long =
-    let one : result_rows a n ≡ result_rows b n =
-    ap (λ (ks : List Kind). n * length ks) same.results in
-    rw e (omega (arith, one, long))
 
 pub case-right : (a b h : Shape) (n : ℕ) (xs ys : List Issue) (meaning : List ℕ → List ℕ)
     (d1 d2 : List Node) (own made : Cells) → 0 < n → SameKinds a b → h ≡ a → AreGood a n xs

@@ -1,7 +1,6 @@
 -- Lists of kinds that are compared one by one
 use Rattle.verify_core.proofs.Common.{Bool, true, false, List, [], ◌∷◌, refl, false≢true, Kind}
-use Rattle.verify_core.proofs.Common.{Word, Bit}
-use Rattle.std.specs.Prelude.{◌≡◌}
+use Rattle.verify_core.proofs.Common.{Word, Bit, ◌≡◌}
 use Rattle.std.specs.Cmp.Lexicographic.{pointwise}
 use Rattle.op_text.specs.contracts.tree.KindPartialEq.TheImpl.{eq-value}
 

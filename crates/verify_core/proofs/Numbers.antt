@@ -2,8 +2,8 @@
 use Rattle.verify_core.proofs.Common.{ℕ, zero, suc, ◌*◌, ◌<◌, Bool, true, false, List, [], ◌∷◌, map}
 use Rattle.verify_core.proofs.Common.{slice_get, slice_index, refl, range_with_len, ap, arith}
 use Rattle.verify_core.proofs.Common.{bit_number, D, Column, number, Kind, width, in_kind, numbers}
-use Rattle.verify_core.proofs.Common.{kind_width}
-use Rattle.std.specs.Prelude.{◌≡◌, ◌+◌, drop}
+use Rattle.verify_core.proofs.Common.{kind_width, ◌≡◌, ◌+◌}
+use Rattle.std.specs.Prelude.{drop}
 use Rattle.bit_rows.specs.Bits.{value}
 use Rattle.uprog_code.specs.Fits.{AreBelow}
 

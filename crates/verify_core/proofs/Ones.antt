@@ -2,8 +2,7 @@
 use Rattle.verify_core.proofs.Common.{ℕ, zero, suc, ◌-◌, ◌*◌, ◌<◌, Bool, List, [], ◌∷◌, ◌++◌}
 use Rattle.verify_core.proofs.Common.{filter, map, length, refl, range_with_len, sym, ◌∙◌, ap}
 use Rattle.verify_core.proofs.Common.{arith, Cell, T, Dcc, D, Column, Shape, Node, Cells, column_of}
-use Rattle.verify_core.proofs.Common.{canonical_rows, result_rows, value_rows}
-use Rattle.std.specs.Prelude.{◌≡◌, ◌+◌}
+use Rattle.verify_core.proofs.Common.{canonical_rows, result_rows, value_rows, ◌≡◌, ◌+◌}
 use Rattle.std.proofs.Common.{append_assoc}
 use Rattle.std.proofs.lemmas.List.Elements.{filter-append}
 use Rattle.std.proofs.lemmas.List.FromFn.{map-range_with_len_more}

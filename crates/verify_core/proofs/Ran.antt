@@ -2,8 +2,7 @@
 use Rattle.verify_core.proofs.Common.{ℕ, ◌<◌, ◌^◌, Bool, List, length, refl, ◌∙◌, ap, subst, arith}
 use Rattle.verify_core.proofs.Common.{run, Shape, Issue, Bound, bound, Fits, Node, AreCells, Cells}
 use Rattle.verify_core.proofs.Common.{column_of, canonical, canonical_rows, result_rows}
-use Rattle.verify_core.proofs.Common.{canonical-fits}
-use Rattle.std.specs.Prelude.{◌≡◌}
+use Rattle.verify_core.proofs.Common.{canonical-fits, ◌≡◌}
 use Rattle.verify_core.specs.declared.start.Begin.{Begin}
 use Rattle.verify_core.specs.Starts.{IsStart}
 use Rattle.verify_core.specs.SymbolicRuns.{IsRun}

@@ -1,43 +1,12 @@
 -- Rows of results, kind by kind
-use Rattle.verify_core.proofs.Common.{ℕ, zero, suc, ◌*◌, ◌<◌, ◌≤◌, Bool, true, List, ◌∷◌, length}
-use Rattle.verify_core.proofs.Common.{slice_get, sym, ◌∙◌, ap, arith, Some, lt-ltb, flip_if, D}
-use Rattle.verify_core.proofs.Common.{Column, Kind, Word, Bit, Shape, width, in_kind, Edge, Node}
-use Rattle.verify_core.proofs.Common.{Keeps, AreCells, Cells, column_of, column-kept, result_rows}
-use Rattle.verify_core.proofs.Common.{kind_width}
-use Rattle.std.specs.Prelude.{◌≡◌, ◌+◌, IfSome, IfNone}
+use Rattle.verify_core.proofs.Common.{ℕ, zero, suc, ◌*◌, ◌<◌, Bool, true, List, ◌∷◌, slice_get, sym}
+use Rattle.verify_core.proofs.Common.{◌∙◌, ap, arith, Some, flip_if, D, Column, Kind, Shape, width}
+use Rattle.verify_core.proofs.Common.{in_kind, Edge, Node, Keeps, AreCells, Cells, column_of}
+use Rattle.verify_core.proofs.Common.{column-kept, kind_width, ◌≡◌, ◌+◌}
+use Rattle.std.specs.Prelude.{IfSome, IfNone}
 use Rattle.std.specs.Option.{option_to_list}
 use Rattle.std.proofs.Common.{Option, None}
-use Rattle.std.proofs.lemmas.Bool.{eq-eqb}
 use Rattle.verify_core.specs.SymbolicRuns.{IsDifference, ResultsAgree, ResultsDiffer}
-
-pub kind-in : (k : Kind) (n i : ℕ) → i < width k n → in_kind (Some k) n i ≡ true
-kind-in Word n i l = lt-ltb i n l
-kind-in Bit n i l = eq-eqb i 0 (omega arith)
-
-width-in : (k : Kind) (n : ℕ) → 0 < n → width k n ≤ n
-width-in Word n some = omega arith
-width-in Bit n some = omega arith
-
--- the first result's rows are among those of the results
-pub first-inside : (shape : Shape) (n : ℕ) → 0 < n → width shape.result n ≤ result_rows shape n
-first-inside shape n some =
-    let w : width shape.result n ≤ n = width-in shape.result n some in
-    by shape.second w
-  where
-    by : (o : Option Kind) → width shape.result n ≤ n
-        → width shape.result n ≤ n * length (shape.result ∷ option_to_list o)
-    by None w = omega (arith, w)
-    by (Some k) w = omega (arith, w)
-
--- and the second's
-pub second-inside : (shape : Shape) (n rows : ℕ) (o : Option Kind) → 0 < n → shape.second ≡ o
-    → result_rows shape n ≤ rows → IfSome o (λ kind. n + width kind n ≤ rows)
-second-inside shape n rows None some e l = tt
-second-inside shape n rows (Some k) some e l =
-    let w : width k n ≤ n = width-in k n some in
-    let two : result_rows shape n ≡ n * 2 =
-    ap (λ (o : Option Kind). n * length (shape.result ∷ option_to_list o)) e in
-    omega (arith, w, two, l)
 
 -- a difference in a diagram that grew since the columns were made
 pub difference-from : (old mid new : List Node) (own made : Cells) (row : ℕ) (e : Edge)
@@ -51,17 +20,6 @@ difference-from old mid new own made row e k p q d = record {
       (column-kept old mid bits own k p)
       ∙ ap (λ (s : Column). flip_if (column_of old bits own (D row)) (s (D row)))
       (column-kept old mid bits made k q);
-}
-
--- what the first result's difference is
-pub first-differs : (shape : Shape) (n i : ℕ) (old new : List Node) (own made : Cells) (e : Edge)
-    → i < width shape.result n → IsDifference old new own made (0 + i) e
-    → ResultsDiffer shape n old new own made e
-first-differs shape n i old new own made e l d = record {
-  which = 0;
-  position = i;
-  inside = kind-in shape.result n i l;
-  difference = let z : 0 * n + i ≡ 0 + i = omega arith in rw z d;
 }
 
 pub second-differs : (shape : Shape) (n i : ℕ) (old new : List Node) (own made : Cells) (e : Edge)

@@ -3,8 +3,7 @@ use Rattle.verify_core.proofs.Common.{ℕ, ◌*◌, ◌<◌, ◌≤◌, Bool, Li
 use Rattle.verify_core.proofs.Common.{ap, arith, Column, Kind, Shape, results, Issue, numbers}
 use Rattle.verify_core.proofs.Common.{Gives, AreGood, Node, Cells, column_of, canonical}
 use Rattle.verify_core.proofs.Common.{canonical_rows, result_rows, value_rows, bases}
-use Rattle.verify_core.proofs.Common.{canonical-fits, base-at, moved, numbers-same}
-use Rattle.std.specs.Prelude.{◌≡◌, ◌+◌}
+use Rattle.verify_core.proofs.Common.{canonical-fits, base-at, moved, numbers-same, ◌≡◌, ◌+◌}
 use Rattle.binding_laws.proofs.Enough.{enough-from}
 use Rattle.verify_core.specs.declared.start.Begin.{Begin}
 use Rattle.verify_core.specs.declared.start.Begin.TheVariants.{Variables}

@@ -1,11 +1,10 @@
 -- Runs on variables, in a diagram that grew, and from a column of one's choice
 use Rattle.verify_core.proofs.Common.{ℕ, ◌*◌, ◌<◌, ◌≤◌, Bool, List, length, slice_index, sym, ◌∙◌}
-use Rattle.verify_core.proofs.Common.{ap, arith, flip_if, T, Dcc, D, Column, Kind, Shape, Issue}
-use Rattle.verify_core.proofs.Common.{Bound, Fits, numbers, Edge, Node, Keeps, value-kept, AreCells}
-use Rattle.verify_core.proofs.Common.{Cells, edge_at, column_of, column-kept, canonical}
-use Rattle.verify_core.proofs.Common.{canonical_rows, result_rows, value_rows, bases}
-use Rattle.verify_core.proofs.Common.{canonical-fits, moved, base-at, numbers-same}
-use Rattle.std.specs.Prelude.{◌≡◌, ◌+◌}
+use Rattle.verify_core.proofs.Common.{ap, arith, flip_if, D, Column, Kind, Shape, Issue, Bound}
+use Rattle.verify_core.proofs.Common.{Fits, numbers, Edge, Node, Keeps, value-kept, AreCells, Cells}
+use Rattle.verify_core.proofs.Common.{column_of, column-kept, canonical, canonical_rows}
+use Rattle.verify_core.proofs.Common.{result_rows, value_rows, bases, canonical-fits, moved}
+use Rattle.verify_core.proofs.Common.{base-at, numbers-same, ◌≡◌, ◌+◌}
 use Rattle.symbolic_column.proofs.Lines.{cells-kept}
 use Rattle.binding_laws.specs.Alike.{Alike}
 use Rattle.binding_laws.proofs.Settled.{moved-alike, same-alike, base-small}
@@ -15,16 +14,6 @@ use Rattle.verify_core.specs.Starts.{IsMeant, IsStart, row_variable}
 use Rattle.verify_core.specs.SymbolicRuns.{IsRun, IsDifference, ResultsDiffer}
 use Rattle.verify_core.specs.Verdicts.{SameKinds}
 use Rattle.verify_core.proofs.Orders.{bits_of, bits-tee, bits-dual, bits-row}
-
--- a diagram that grew keeps the variables
-pub start-kept : (x y : List Node) (b : Begin) (n s r : ℕ) (c : Cells) → Keeps x y → AreCells x c
-    → IsStart x b n s r c → IsStart y b n s r c
-start-kept x y b n s r c k all i = record {
-  tees = λ bits m j l. value-kept x y bits (edge_at c (T j)) k (all (T j)) ∙ i.tees bits m j l;
-  duals = λ bits m j l. value-kept x y bits (edge_at c (Dcc j)) k (all (Dcc j))
-      ∙ i.duals bits m j l;
-  rows = λ bits m j l. value-kept x y bits (edge_at c (D j)) k (all (D j)) ∙ i.rows bits m j l;
-}
 
 -- and what a run came to
 pub run-kept : (shape : Shape) (n : ℕ) (issues : List Issue) (b : Begin) (x y : List Node)

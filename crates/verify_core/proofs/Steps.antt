@@ -1,9 +1,9 @@
 -- One row or one number more
 use Rattle.verify_core.proofs.Common.{ℕ, zero, suc, ◌-◌, ◌*◌, ◌<◌, ◌≤◌, ◌^◌, Bool, List, [], ◌∷◌}
 use Rattle.verify_core.proofs.Common.{◌++◌, map, slice_get, length, refl, range_with_len, sym, ◌∙◌}
-use Rattle.verify_core.proofs.Common.{ap, arith, Some, length-take, bit_number, Column, number}
-use Rattle.verify_core.proofs.Common.{Kind, width, numbers, bases}
-use Rattle.std.specs.Prelude.{◌≡◌, ◌+◌, slice_index_or, take}
+use Rattle.verify_core.proofs.Common.{ap, arith, Some, bit_number, Column, number, Kind, width}
+use Rattle.verify_core.proofs.Common.{numbers, bases, ◌≡◌, ◌+◌, take}
+use Rattle.std.specs.Prelude.{slice_index_or}
 use Rattle.std.proofs.Math.Pow.{pow_mono}
 use Rattle.std.proofs.lemmas.List.{length-map}
 use Rattle.std.proofs.lemmas.List.FromFn.{length-range_with_len}
@@ -41,15 +41,6 @@ numbers-more n s (suc i) (x ∷ ks) k c h =
     let e : suc i + 1 ≡ suc (i + 1) = omega arith in
     let f : s + n + n * i ≡ s + n * suc i = omega arith in
     rw (e, ← f) (ap (λ xs. number s (width x n) c ∷ xs) (numbers-more n (s + n) i ks k c h))
-
-pub numbers-long : (n s : ℕ) (ks : List Kind) (c : Column)
-    → length (numbers n ks (bases n s ks) c) ≡ length ks
-numbers-long n s [] c = refl
-numbers-long n s (k ∷ ks) c = ap suc (numbers-long n (s + n) ks c)
-
-pub numbers-short : (n s i : ℕ) (ks : List Kind) (c : Column) → i < length ks → length ks ≤ 4
-    → length (numbers n (take i ks) (bases n s (take i ks)) c) < 4
-numbers-short n s i ks c l m = omega (arith, numbers-long n s (take i ks) c, length-take i ks)
 
 pub numbers-next : (n s i next w v : ℕ) (ks : List Kind) (d : Kind) (c : Column) (xs : List ℕ)
     → i < length ks → xs ≡ numbers n (take i ks) (bases n s (take i ks)) c → next ≡ s + n * i

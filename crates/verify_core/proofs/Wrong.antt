@@ -3,8 +3,7 @@ use Rattle.verify_core.proofs.Common.{◌≢◌, ℕ, ◌*◌, ◌<◌, Bool, tr
 use Rattle.verify_core.proofs.Common.{sym, ◌∙◌, ap, arith, false≢true, flip_if, D, Shape, results}
 use Rattle.verify_core.proofs.Common.{Issue, run, bound, numbers, Gives, AreGood, Edge, Node, value}
 use Rattle.verify_core.proofs.Common.{Cells, column_of, canonical, canonical_rows, bases}
-use Rattle.verify_core.proofs.Common.{canonical-fits, base-at}
-use Rattle.std.specs.Prelude.{◌≡◌, ◌+◌}
+use Rattle.verify_core.proofs.Common.{canonical-fits, base-at, ◌≡◌, ◌+◌}
 use Rattle.binding_laws.proofs.Elsewhere.{elsewhere}
 use Rattle.verify_core.specs.declared.case.Case.{Case}
 use Rattle.verify_core.specs.declared.start.Begin.{Begin}

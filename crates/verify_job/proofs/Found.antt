@@ -1,17 +1,12 @@
 -- The findings of ops, one after another.
 use Rattle.std.proofs.Common.{◌≡◌, ℕ, zero, suc, ◌<◌, Bool, true, false, List, [], ◌∷◌, ◌++◌}
-use Rattle.std.proofs.Common.{◌≤◌, length, map, take, refl, sym, ◌∙◌, ap, subst, arith, cond}
-use Rattle.std.proofs.Common.{Some, None}
-use Rattle.std.specs.Prelude.{◌&&◌, bytes_eq, nat_lt, position, slice_get, slice_index_or}
-use Rattle.std.specs.List.{AllByRecursion, list_all, position_or_len}
-use Rattle.std.proofs.lemmas.List.Folds.{find_at}
-use Rattle.std.proofs.lemmas.Option.{slice_get_past}
+use Rattle.std.proofs.Common.{length, map, take, refl, sym, ◌∙◌, ap, subst, arith, cond, Some, None}
+use Rattle.std.specs.Prelude.{◌&&◌, bytes_eq, position, slice_get, slice_index_or}
+use Rattle.std.specs.List.{AllByRecursion, list_all}
 use Rattle.uprog_code.specs.declared.code.EntryCode.{EntryCode}
-use Rattle.uprog_code.specs.Shape.{Microprogram, Shape, microprogram_of, shape_of}
-use Rattle.uprog_code.specs.Machine.{HasEnded, trace}
-use Rattle.uprog_code.specs.Legal.{IsLegalCode}
-use Rattle.uprog_code.specs.Programs.{IsEntry, IsProgram}
+use Rattle.uprog_code.specs.Shape.{Microprogram, microprogram_of}
 use Rattle.uprog_code.specs.Texts.{EntryDoes, ImplementsAll, TextOp}
+use Rattle.uprog_code.proofs.Found.{found_there, none_there}
 use Rattle.machine_model.specs.Routines.{Program, entry_named}
 use Rattle.verify_core.specs.declared.verdict.Verdict.TheVariants.{Right, Wrong, Stuck, OtherKinds}
 use Rattle.verify_core.specs.declared.verdict.Verdict.TheVariants.{Unknown}
@@ -22,18 +17,6 @@ use Rattle.verify_job.specs.declared.finding.OpFindings.{OpFindings}
 use Rattle.verify_job.specs.Findings.{AreAtWidths, AreFindings, HasRight, HaveRight, IsFinding}
 use Rattle.verify_job.specs.Findings.{is_right, is_right_throughout, may_be_right_throughout}
 use Rattle.verify_job.specs.Findings.{status_of}
-use Rattle.verify_job.specs.Widths.{AllEnd}
-
--- an entry of a program that does ops, with its op
-pub op_there : (items : List EntryCode) (ops : List TextOp) (k : ℕ) (x : EntryCode)
-    → ImplementsAll (map microprogram_of items) ops → k < length items
-    → x ≡ slice_index_or items k x → (o : TextOp) × EntryDoes (microprogram_of x) o
-op_there [] ops k x does lt e = absurd (omega arith)
-op_there (y ∷ items) [] k x does lt e = absurd does
-op_there (y ∷ items) (o ∷ ops) zero x does lt e =
-    (o, subst (λ (z : EntryCode). EntryDoes (microprogram_of z) o) (sym e) does.0)
-op_there (y ∷ items) (o ∷ ops) (suc k) x does lt e =
-    op_there items ops k x does.1 (omega arith) e
 
 -- the finding at one more width
 pub found_at : (widths : List ℕ) (program : Program) (o : TextOp) (k n : ℕ) (found : List FoundAt)
@@ -147,55 +130,17 @@ all_right widths program ops found e are =
 
 -- the entry of an op's name, by its place
 
-some_place : (b : Bool) (n k : ℕ) → Some k ≡ cond b (Some n) None → n ≡ k
-some_place true n k e = cc
-some_place false n k e = absurd (cc)
-
-no_place : (b : Bool) (n : ℕ) → None ≡ cond b (Some n) None → b ≡ false
-no_place true n e = absurd (cc)
-no_place false n e = refl
-
-past : {X : Type 0} (xs : List X) (n : ℕ) → nat_lt n (length xs) ≡ false → None ≡ slice_get xs n
-past xs n e = sym (slice_get_past xs n (grind arith))
-
 -- the entry at the place of a name is the one of the name
 pub named_there : (program : Program) (name : List ℕ) (o : TextOp) (k : ℕ) (e : Microprogram)
     → name ≡ o.name → Some k ≡ position (λ m. bytes_eq m.name name) program
     → slice_get program k ≡ Some e → entry_named program o.name ≡ Some e
 named_there program name o k e same is at =
-    let p = λ (m : Microprogram). bytes_eq m.name name in
-    let place = some_place (nat_lt (position_or_len p program) (length program))
-    (position_or_len p program) k is in
     subst (λ (x : List ℕ). entry_named program x ≡ Some e) same
-    (find_at p program ∙ ap (slice_get program) place ∙ at)
+    (found_there (λ (m : Microprogram). bytes_eq m.name name) program k e is at)
 
 -- and where a name has no place, there is none
 pub none_named : (program : Program) (name : List ℕ) (o : TextOp) → name ≡ o.name
     → None ≡ position (λ m. bytes_eq m.name name) program → entry_named program o.name ≡ None
 none_named program name o same is =
-    let p = λ (m : Microprogram). bytes_eq m.name name in
     subst (λ (x : List ℕ). entry_named program x ≡ None) same
-    (find_at p program ∙ sym (past program (position_or_len p program)
-    (no_place (nat_lt (position_or_len p program) (length program)) (position_or_len p program)
-    is)))
-
-legal_there : (items : List EntryCode) (k : ℕ) (x : EntryCode)
-    → AllByRecursion IsEntry (map microprogram_of items) → k < length items
-    → x ≡ slice_index_or items k x → IsEntry (microprogram_of x)
-legal_there [] k x legal lt e = absurd (omega arith)
-legal_there (y ∷ items) zero x legal lt e =
-    subst (λ (z : EntryCode). IsEntry (microprogram_of z)) (sym e) legal.0
-legal_there (y ∷ items) (suc k) x legal lt e =
-    legal_there items k x legal.1 (omega arith) e
-
--- an entry of a program that does ops is legal, and its walks end
-pub entry_there : (items : List EntryCode) (ops : List TextOp) (k : ℕ) (x : EntryCode)
-    → ImplementsAll (map microprogram_of items) ops → IsProgram (map microprogram_of items)
-    → k < length items → x ≡ slice_index_or items k x
-    → IsLegalCode (shape_of x.head) x.code.items × AllEnd (shape_of x.head) x.code.items
-entry_there items ops k x does legal lt e =
-    let o = op_there items ops k x does lt e in (
-      (legal_there items k x legal.entries lt e).code,
-      λ n some narrow. subst (λ (s : Shape). HasEnded (trace s x.code.items n)) (sym o.1.shape)
-          (o.1.code.ends n some narrow),
-    )
+    (none_there (λ (m : Microprogram). bytes_eq m.name name) program is)

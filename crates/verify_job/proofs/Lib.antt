@@ -1,4 +1,3 @@
-mod Written
 pub mod Found
 pub mod Apart
 pub mod Runs

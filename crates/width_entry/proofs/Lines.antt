@@ -83,10 +83,6 @@ no_row : (r : ℕ) (s : RowSpace) (which a b : ℕ)
     → row_at (two a b) (row_by r (row s which 0)) ≡ row s which 0
 no_row r s which a b = ap (row s which) (no_position s a b)
 
--- the list at a place
-abbrev Split : List Uop → List Uop → List Uop → Type 0
-Split code pre rest = code ≡ pre ++ rest
-
 -- what is set for the first row
 pub record FirstSet (shape : Shape) (code : List Uop) (n : ℕ) (x : RowRef) (pre rest : List Uop)
     (all left a b : ℕ) : Type 0 where

@@ -1,11 +1,6 @@
 -- The commands so far and what is left to issue.
-use Rattle.width_entry.proofs.Common.{◌≡◌, ℕ, suc, List, [], ◌++◌, refl, sym, ap, ◌∙◌, subst, Some}
-use Rattle.width_entry.proofs.Common.{slice_get, append_assoc, append-nil, Uop, Why3, Shape, Ended}
-use Rattle.width_entry.proofs.Common.{HasEnded, Issue, Next, Stuck, Trace, act, issue, onto}
-use Rattle.width_entry.proofs.Common.{turn_trace}
-use Rattle.std.proofs.Common.{Result}
-use Rattle.uprog_code.specs.declared.registers.Turn.{Turn}
-use Rattle.uprog_code.proofs.Steps.{one_step}
+use Rattle.width_entry.proofs.Common.{◌≡◌, ℕ, List, [], ◌++◌, refl, sym, ap, subst, append_assoc}
+use Rattle.width_entry.proofs.Common.{append-nil, Why3, Ended, HasEnded, Issue, Stuck, Trace, onto}
 
 pub onto_nil : (t : Trace) → onto [] t ≡ t
 onto_nil (Ended cs) = refl
@@ -21,13 +16,3 @@ onto_end cs = ap Ended (append-nil cs)
 pub never_stuck : (cs : List Issue) (at : ℕ) (why : Why3) (t : Trace) → HasEnded t
     → onto cs (Stuck at why) ≡ t → ⊥
 never_stuck cs at why t h e = subst HasEnded (sym e) h
-
--- a step by a head of this shape
-pub step_from : (shape shape' : Shape) (code : List Uop) (n all left pc : ℕ) (regs regs' : List ℕ)
-    (uop : Uop) (res : Result Turn Why3) → shape' ≡ shape → all ≡ suc left
-    → slice_get code pc ≡ Some uop → ((next : Next) (q : ℕ)
-    → act shape' n uop next q regs ≡ turn_trace res next q regs')
-    → issue shape code n all pc regs ≡ turn_trace res (issue shape code n left) pc regs'
-step_from shape shape' code n all left pc regs regs' uop res same e at does =
-    one_step shape code n all left pc regs regs' uop res e at (λ next q.
-    ap (λ (s : Shape). act s n uop next q regs) (sym same) ∙ does next q)

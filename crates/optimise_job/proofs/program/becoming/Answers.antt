@@ -3,31 +3,22 @@ use Rattle.optimise_job.proofs.Common.{position, slice_index_or, EntryCode, Micr
 use Rattle.optimise_job.proofs.Common.{microprogram_of, EntryDoes, ImplementsAll, TextOp}
 use Rattle.optimise_job.specs.declared.offer.Offered.{Offered}
 use Rattle.optimise_job.specs.Outcomes.{IsOfferOf, IsOutcome}
-use Rattle.optimise_job.proofs.Found.{entry_there, none_named, op_there_named}
+use Rattle.uprog_code.proofs.Found.{entry_there}
+use Rattle.optimise_job.proofs.Found.{none_named, op_there_named}
 use Rattle.optimise_job.proofs.Offers.{if_made, outcome_none, outcome_some}
 use Rattle.optimise_job.proofs.program.becoming.Goals as goal
 
 pub with_line-requires-clause-made_legal : goal.with_line-requires-clause-made_legal
 with_line-requires-clause-made_legal g c =
-    let items = c.args.made.now.entries.items in
-    let same = c.as_slice-entries.ensures.value in
-    let x = c.index-entries-k.result in
-    let lt = subst (λ (es : List EntryCode). c.in-Some.k < length es) same c.in-Some.ensures.within in
-    let is = subst (λ (es : List EntryCode). x ≡ slice_index_or es c.in-Some.k x) same
-    c.index-entries-k.is in
-    (entry_there items c.requires.implements.0 c.in-Some.k x c.requires.implements.1
-    c.requires.made_legal lt is).0
+    (entry_there c.args.made.now.entries.items c.as_slice-entries.result.now c.requires.implements.0
+    c.in-Some.k c.index-entries-k.result c.as_slice-entries.ensures.value c.requires.implements.1
+    c.requires.made_legal c.in-Some.ensures.within c.index-entries-k.is).0
 
 pub with_line-requires-clause-does : goal.with_line-requires-clause-does
 with_line-requires-clause-does g c =
-    let items = c.args.made.now.entries.items in
-    let same = c.as_slice-entries.ensures.value in
-    let x = c.index-entries-k.result in
-    let lt = subst (λ (es : List EntryCode). c.in-Some.k < length es) same c.in-Some.ensures.within in
-    let is = subst (λ (es : List EntryCode). x ≡ slice_index_or es c.in-Some.k x) same
-    c.index-entries-k.is in
-    (entry_there items c.requires.implements.0 c.in-Some.k x c.requires.implements.1
-    c.requires.made_legal lt is).1
+    (entry_there c.args.made.now.entries.items c.as_slice-entries.result.now c.requires.implements.0
+    c.in-Some.k c.index-entries-k.result c.as_slice-entries.ensures.value c.requires.implements.1
+    c.requires.made_legal c.in-Some.ensures.within c.index-entries-k.is).1
 
 pub returns-in_ok-copied-in-None-clause-outcome : goal.returns-in_ok-copied-in-None-clause-outcome
 returns-in_ok-copied-in-None-clause-outcome g c = λ ops does.

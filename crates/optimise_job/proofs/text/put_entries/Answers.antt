@@ -4,7 +4,7 @@ use Rattle.std.proofs.lemmas.Iterator.{YieldsList-from_slice, YieldsList-from_zi
 use Rattle.std.proofs.lemmas.Iterator.Consumers.{YieldsList-at, YieldsList-end}
 use Rattle.optimise_job.specs.declared.offer.Outcome.{Outcome}
 use Rattle.optimise_job.specs.Report.{entry_line}
-use Rattle.optimise_job.proofs.Written.{one_more, zip_read}
+use Rattle.uprog_code.proofs.Written.{one_more, zip_read}
 use Rattle.optimise_job.proofs.text.put_entries.Goals as goal
 
 pub loop-entry-preserved : goal.loop-entry-preserved

@@ -3,7 +3,7 @@ use Rattle.std.proofs.lemmas.List.{get_or_default}
 use Rattle.uprog_code.specs.Shape.{Microprogram}
 use Rattle.prog_text.specs.Costs.{cost_line}
 use Rattle.prog_text.specs.Widths.{is_single}
-use Rattle.prog_text.proofs.Written.{next_part}
+use Rattle.uprog_code.proofs.Written.{next_part}
 use Rattle.prog_text.proofs.costs.put_costs.Goals as goal
 
 pub put_cost-requires : goal.put_cost-requires

@@ -1,5 +1,6 @@
 use Rattle.verify_core.proofs.Common.{◌≡◌, ◌∙◌, ◌+◌, take, ap, arith, sym, length-take, Kind, bases}
-use Rattle.std.proofs.Common.{◌*◌, ◌<◌, ◌≤◌, ℕ, zero, suc, List, [], ◌∷◌, ◌++◌, length, refl}
+use Rattle.verify_core.proofs.Common.{◌*◌, ◌<◌, ◌≤◌, ℕ, zero, suc, List, [], ◌∷◌, ◌++◌, length}
+use Rattle.std.proofs.Common.{refl}
 use Rattle.verify_core.proofs.canonical.first_rows.Goals as goal
 
 long : (n s : ℕ) (ks : List Kind) → length (bases n s ks) ≡ length ks

@@ -1,5 +1,4 @@
-use Rattle.verify_core.proofs.Common.{◌≡◌, ◌+◌, take, bases}
-use Rattle.std.proofs.Common.{◌*◌}
+use Rattle.verify_core.proofs.Common.{◌≡◌, ◌+◌, take, bases, ◌*◌}
 use Rattle.verify_core.proofs.canonical.first_rows.Given as goal
 
 abbrev pub invariant-loop-kind : goal.invariant-loop-kind

@@ -1,6 +1,6 @@
 use Rattle.verify_core.proofs.Common.{◌≡◌, ◌∙◌, ◌+◌, ap, arith, range_with_len, bit_number, Cell, D}
 use Rattle.verify_core.proofs.Common.{Edge, Node, assigned, AreCells, Cells, column_of, edge_at}
-use Rattle.std.proofs.Common.{◌-◌, ◌<◌, ◌≤◌, ◌^◌, ℕ, Bool, List, length, map}
+use Rattle.verify_core.proofs.Common.{◌-◌, ◌<◌, ◌≤◌, ◌^◌, ℕ, Bool, List, length, map}
 use Rattle.bit_rows.specs.Bits.{value}
 use Rattle.bdd.specs.Graphs.{value as value_of}
 use Rattle.verify_core.proofs.Steps.{number-more, number-small}

@@ -1,5 +1,5 @@
-use Rattle.verify_core.proofs.Common.{◌≡◌, ◌+◌, range_with_len, D, assigned, column_of}
-use Rattle.std.proofs.Common.{◌-◌, ◌≤◌, map}
+use Rattle.verify_core.proofs.Common.{◌≡◌, ◌+◌, range_with_len, D, assigned, column_of, ◌-◌, ◌≤◌}
+use Rattle.verify_core.proofs.Common.{map}
 use Rattle.bit_rows.specs.Bits.{value}
 use Rattle.verify_core.proofs.case.number.Given as goal
 

@@ -1,5 +1,4 @@
-use Rattle.verify_core.proofs.Common.{◌≡◌, ◌+◌, take, numbers, assigned, column_of, bases}
-use Rattle.std.proofs.Common.{◌*◌}
+use Rattle.verify_core.proofs.Common.{◌≡◌, ◌+◌, take, numbers, assigned, column_of, bases, ◌*◌}
 use Rattle.verify_core.proofs.case.numbers.Given as goal
 
 abbrev pub invariant-loop-kind : goal.invariant-loop-kind

@@ -1,5 +1,5 @@
-use Rattle.verify_core.proofs.Common.{◌≡◌, ap, arith, Kind, shape_of, assigned, column_of}
-use Rattle.std.proofs.Common.{List, length}
+use Rattle.verify_core.proofs.Common.{◌≡◌, ap, arith, Kind, shape_of, assigned, column_of, List}
+use Rattle.verify_core.proofs.Common.{length}
 use Rattle.verify_core.proofs.Ones.{work-ones}
 use Rattle.verify_core.proofs.case.ones.Goals as goal
 

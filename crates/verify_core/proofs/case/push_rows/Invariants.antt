@@ -1,5 +1,5 @@
-use Rattle.verify_core.proofs.Common.{◌≡◌, filter, range_with_len, D, assigned, column_of}
-use Rattle.std.proofs.Common.{◌++◌, map}
+use Rattle.verify_core.proofs.Common.{◌≡◌, filter, range_with_len, D, assigned, column_of, ◌++◌}
+use Rattle.verify_core.proofs.Common.{map}
 use Rattle.verify_core.proofs.case.push_rows.Given as goal
 
 abbrev pub invariant-loop-k : goal.invariant-loop-k

@@ -1,7 +1,8 @@
 use Rattle.verify_core.proofs.Common.{◌≡◌, ◌∙◌, ◌+◌, sym, arith, below_more, false≢true, D, flip_if}
 use Rattle.verify_core.proofs.Common.{Edge, Node, constant, AreNodes, Keeps, value, keeps-both}
 use Rattle.verify_core.proofs.Common.{value-kept, value-zero, edge_at, column_of, AreCells, Cells}
-use Rattle.std.proofs.Common.{◌<◌, ℕ, Bool, true, false, refl, List, length}
+use Rattle.verify_core.proofs.Common.{◌<◌, ℕ, Bool, true, false, List, length}
+use Rattle.std.proofs.Common.{refl}
 use Rattle.verify_core.proofs.compare.first_difference.Goals as goal
 
 named-at : (x y : List Node) (s : Cells) (row : ℕ) (e : Edge) → AreCells x s → Keeps x y

@@ -1,5 +1,4 @@
-use Rattle.verify_core.proofs.Common.{◌≡◌, ◌+◌, D, AreNodes, Keeps, column_of}
-use Rattle.std.proofs.Common.{◌<◌, ℕ, Bool}
+use Rattle.verify_core.proofs.Common.{◌≡◌, ◌+◌, D, AreNodes, Keeps, column_of, ◌<◌, ℕ, Bool}
 use Rattle.verify_core.proofs.compare.first_difference.Given as goal
 
 abbrev pub invariant-loop-k : goal.invariant-loop-k

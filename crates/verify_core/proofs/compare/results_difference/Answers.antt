@@ -1,5 +1,4 @@
-use Rattle.verify_core.proofs.Common.{◌≡◌, ◌+◌, D, shape_of, in_kind, column_of}
-use Rattle.std.proofs.Common.{◌<◌, ℕ, Bool, true}
+use Rattle.verify_core.proofs.Common.{◌≡◌, ◌+◌, D, shape_of, in_kind, column_of, ◌<◌, ℕ, Bool, true}
 use Rattle.verify_core.specs.SymbolicRuns.{IsDifference, ResultsAgree, ResultsDiffer}
 use Rattle.verify_core.proofs.Results.{agree-from, both-agree, difference-from, none-map, said}
 use Rattle.verify_core.proofs.Results.{second-differs, some-map}

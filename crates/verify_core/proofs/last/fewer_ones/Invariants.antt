@@ -1,5 +1,4 @@
-use Rattle.verify_core.proofs.Common.{◌≡◌, issues_of, trace, Gives, AreNodes}
-use Rattle.std.proofs.Common.{ℕ, List}
+use Rattle.verify_core.proofs.Common.{◌≡◌, issues_of, trace, Gives, AreNodes, ℕ, List}
 use Rattle.verify_core.specs.Verdicts.{Fails}
 use Rattle.verify_core.proofs.last.fewer_ones.Given as goal
 

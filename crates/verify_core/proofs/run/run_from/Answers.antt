@@ -1,5 +1,5 @@
-use Rattle.verify_core.proofs.Common.{ap, arith, shape_of, issues_of, trace, result_rows}
-use Rattle.std.proofs.Common.{refl, length}
+use Rattle.verify_core.proofs.Common.{ap, arith, shape_of, issues_of, trace, result_rows, length}
+use Rattle.std.proofs.Common.{refl}
 use Rattle.uprog_code.specs.Bound.{bound_of}
 use Rattle.verify_core.proofs.Ran.{fits-by, ran-by}
 use Rattle.verify_core.proofs.run.run_from.Goals as goal

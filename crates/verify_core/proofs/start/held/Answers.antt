@@ -1,6 +1,6 @@
 use Rattle.verify_core.proofs.Common.{◌≡◌, ◌∙◌, sym, subst, flip_if, Node, constant, AreNodes}
-use Rattle.verify_core.proofs.Common.{value, value-zero}
-use Rattle.std.proofs.Common.{ℕ, Bool, true, false, List, refl}
+use Rattle.verify_core.proofs.Common.{value, value-zero, ℕ, Bool, true, false, List}
+use Rattle.std.proofs.Common.{refl}
 use Rattle.verify_core.specs.declared.start.Begin.{Begin}
 use Rattle.verify_core.specs.Starts.{IsMeant}
 use Rattle.verify_core.proofs.start.held.Goals as goal

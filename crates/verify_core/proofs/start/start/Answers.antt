@@ -1,6 +1,6 @@
 use Rattle.verify_core.proofs.Common.{◌≡◌, ◌∙◌, ◌+◌, ap, arith, below_more, T, Dcc, D, value}
-use Rattle.verify_core.proofs.Common.{keeps-both, edge_at}
-use Rattle.std.proofs.Common.{◌≢◌, ◌<◌, ℕ, Bool, refl, eq-eqb}
+use Rattle.verify_core.proofs.Common.{keeps-both, edge_at, ◌≢◌, ◌<◌, ℕ, Bool}
+use Rattle.std.proofs.Common.{refl, eq-eqb}
 use Rattle.std.proofs.lemmas.Bool.{ne_eqb}
 use Rattle.verify_core.specs.Starts.{IsMeant, row_variable}
 use Rattle.verify_core.proofs.start.start.Goals as goal

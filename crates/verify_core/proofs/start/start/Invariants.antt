@@ -1,6 +1,5 @@
 use Rattle.verify_core.proofs.Common.{◌≡◌, ◌+◌, T, Dcc, D, AreNodes, Keeps, value, edge_at}
-use Rattle.verify_core.proofs.Common.{AreCells}
-use Rattle.std.proofs.Common.{◌<◌, ℕ, Bool, length}
+use Rattle.verify_core.proofs.Common.{AreCells, ◌<◌, ℕ, Bool, length}
 use Rattle.verify_core.specs.Starts.{IsMeant, row_variable}
 use Rattle.verify_core.proofs.start.start.Given as goal
 

@@ -1,5 +1,4 @@
-use Rattle.verify_core.proofs.Common.{◌∙◌, sym, shape_of, issues_of, trace, Gives}
-use Rattle.std.proofs.Common.{ℕ, List}
+use Rattle.verify_core.proofs.Common.{◌∙◌, sym, shape_of, issues_of, trace, Gives, ℕ, List}
 use Rattle.verify_core.proofs.Results.{said}
 use Rattle.verify_core.proofs.Says.{is-right, kinds-by}
 use Rattle.verify_core.proofs.verdict.verify_entry.Goals as goal

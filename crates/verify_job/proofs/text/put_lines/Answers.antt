@@ -6,7 +6,7 @@ use Rattle.op_text.specs.declared.tree.Op.{Op}
 use Rattle.op_text.specs.Language.{operation}
 use Rattle.verify_job.specs.declared.finding.OpFindings.{OpFindings}
 use Rattle.verify_job.specs.Report.{op_lines}
-use Rattle.verify_job.proofs.Written.{one_more, zip_read}
+use Rattle.uprog_code.proofs.Written.{one_more, zip_read}
 use Rattle.verify_job.proofs.text.put_lines.Goals as goal
 
 pub loop-op-preserved : goal.loop-op-preserved

@@ -4,7 +4,7 @@ use Rattle.std.proofs.lemmas.Iterator.{YieldsList-from_slice, YieldsList-from_zi
 use Rattle.std.proofs.lemmas.Iterator.Consumers.{YieldsList-at, YieldsList-end}
 use Rattle.op_text.specs.declared.tree.Param.{Param}
 use Rattle.verify_job.specs.Report.{source_text}
-use Rattle.verify_job.proofs.Written.{one_more}
+use Rattle.uprog_code.proofs.Written.{one_more}
 use Rattle.verify_job.proofs.text.put_sources.Goals as goal
 
 pub loop-param-preserved : goal.loop-param-preserved

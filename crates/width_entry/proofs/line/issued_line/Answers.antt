@@ -6,7 +6,8 @@ use Rattle.uprog_code.specs.declared.registers.Turn.TheVariants.{Over}
 use Rattle.uprog_code.specs.OneStep.{issues_by}
 use Rattle.uprog_code.proofs.Steps.{no_more, start_registers, goes_on, not_last, place_in}
 use Rattle.width_entry.specs.Lines.{issues}
-use Rattle.width_entry.proofs.Whole.{never_stuck, onto_both, onto_end, onto_nil, step_from}
+use Rattle.uprog_code.proofs.Seek.{step_from}
+use Rattle.width_entry.proofs.Whole.{never_stuck, onto_both, onto_end, onto_nil}
 use Rattle.width_entry.proofs.line.issued_line.Goals as goal
 
 pub loop-k-init : goal.loop-k-init

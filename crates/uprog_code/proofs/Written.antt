@@ -1,4 +1,4 @@
--- What was written, and what is left.
+-- The text of a program's parts, written one after another.
 use Rattle.std.proofs.Common.{◌≡◌, ℕ, ◌+◌, ◌<◌, List, [], ◌∷◌, ◌++◌, length, drop, map, flat_map}
 use Rattle.std.proofs.Common.{refl, ap, sym, ◌∙◌}
 use Rattle.std.proofs.lemmas.List.{append_assoc, append-nil, drop_more}
@@ -6,12 +6,12 @@ use Rattle.std.proofs.lemmas.Grind.{flat_map-append}
 use Rattle.std.specs.Prelude.{slice_index_or}
 use Rattle.std.specs.List.{zip}
 
--- the text of one more part
-pub part_more : {A : Type 0} (text : A → List ℕ) (parts : List A) (k : ℕ) (part : A)
+-- the text of one more part that is left
+pub next_part : {A : Type 0} (text : A → List ℕ) (parts : List A) (k : ℕ) (part : A)
     (out new all : List ℕ) → k < length parts → part ≡ slice_index_or parts k part
     → new ≡ out ++ text part → out ++ flat_map text (drop k parts) ≡ all
     → new ++ flat_map text (drop (k + 1) parts) ≡ all
-part_more {A} text parts k part out new all lt e written before =
+next_part {A} text parts k part out new all lt e written before =
     ap (λ (xs : List ℕ). xs ++ flat_map text (drop (k + 1) parts)) written
     ∙ append_assoc out (text part) (flat_map text (drop (k + 1) parts))
     ∙ ap (λ (xs : List A). out ++ flat_map text xs)
