@@ -1,15 +1,13 @@
 -- The files foretell how a command ends.
-use Rattle.std.proofs.Common.{◌≡◌, ◌⊎◌, ℕ, ◌<◌, List, [], ◌∷◌, length, Option, Some, None}
-use Rattle.std.proofs.Common.{refl, sym, ◌∙◌, ap, subst, inl, inr}
-use Rattle.std.specs.Prelude.{IfSome}
-use Rattle.std.proofs.lemmas.Bool.{lt-ltb, le-ltb}
-use Rattle.host_edge.specs.Views.{Files, Known}
+use Rattle.cli_model.proofs.Common.{◌≡◌, ◌⊎◌, ℕ, List, [], ◌∷◌, length, Option, Some, None, refl}
+use Rattle.cli_model.proofs.Common.{sym, ◌∙◌, ap, subst, inl, inr, IfSome, le-ltb, Files, Known}
+use Rattle.std.proofs.Common.{◌<◌}
+use Rattle.std.proofs.lemmas.Bool.{lt-ltb}
 use Rattle.cli_model.specs.World.{World, with_file}
-use Rattle.cli_model.specs.Steps.{Step, Load, Take, Store, Open, Use, UseFor, Put, Print}
-use Rattle.cli_model.specs.Steps.{Refusal, Reason}
-use Rattle.cli_model.specs.Steps.{CannotRead, TooLong, Refused, NoMemory, CannotWrite, PutFailed}
-use Rattle.cli_model.specs.Steps.{ChipFailed, End, Done, Stopped, Goes, FailsBy, LoadFails}
-use Rattle.cli_model.specs.Steps.{Loaded}
+use Rattle.cli_model.specs.Steps.{Step, Load, Take, Store, Open, Use, UseFor, Put, Print, Refusal}
+use Rattle.cli_model.specs.Steps.{Reason, CannotRead, TooLong, Refused, NoMemory, CannotWrite}
+use Rattle.cli_model.specs.Steps.{PutFailed, ChipFailed, End, Done, Stopped, Goes, FailsBy}
+use Rattle.cli_model.specs.Steps.{LoadFails, Loaded}
 use Rattle.cli_model.specs.Foreseen.{refused_or, load_end, foreseen}
 use Rattle.cli_model.specs.Ends.{IsFault}
 
@@ -125,7 +123,7 @@ files_decide (Load name limit text refusal ∷ steps) end a b files (inl (mid, (
     ∙ rw none refl)) rest
 files_decide (Take ∷ steps) end a b files (inl (mid, (d, g))) e =
     decided_by (Take ∷ steps) steps end files files refl
-    (files_decide steps end mid b files g (d.files ∙ e))
+    (files_decide steps end mid b files g (ap (λ (w : World). w.files.holds) d ∙ e))
 files_decide (Store name bytes ∷ steps) end a b files (inl (mid, (d, g))) e =
     let next = known_new (λ before after. after ≡ with_file name bytes before) a.files.holds
     mid.files.holds files d.files e in
@@ -142,7 +140,7 @@ files_decide (UseFor wave ∷ steps) end a b files (inl (mid, (d, g))) e =
     (files_decide steps end mid b files g (ap (λ f. f.holds) d.files ∙ e))
 files_decide (Put bytes ∷ steps) end a b files (inl (mid, (d, g))) e =
     decided_by (Put bytes ∷ steps) steps end files files refl
-    (files_decide steps end mid b files g (ap (λ f. f.holds) d.files ∙ e))
+    (files_decide steps end mid b files g (ap (λ f. f.holds) d.0.files ∙ e))
 files_decide (Print on bytes ∷ steps) end a b files (inl (mid, (d, g))) e =
     decided_by (Print on bytes ∷ steps) steps end files files refl
-    (files_decide steps end mid b files g (ap (λ f. f.holds) d.files ∙ e))
+    (files_decide steps end mid b files g (ap (λ f. f.holds) d.0.files ∙ e))

@@ -1,19 +1,18 @@
 -- What a command that is done delivers.
-use Rattle.std.proofs.Common.{◌≡◌, ◌⊎◌, ℕ, ◌≤◌, Bool, true, false, cond, List, [], ◌∷◌, ◌++◌, length}
-use Rattle.std.proofs.Common.{Option, Some, None, refl, sym, ◌∙◌, ap, subst, inl, inr}
-use Rattle.std.proofs.Common.{append-nil, append_assoc}
-use Rattle.std.specs.Prelude.{IfSome, nat_lt}
+use Rattle.cli_model.proofs.Common.{◌≡◌, ◌⊎◌, ℕ, ◌≤◌, Bool, true, false, List, [], ◌∷◌, ◌++◌}
+use Rattle.cli_model.proofs.Common.{length, Option, Some, None, refl, sym, ◌∙◌, ap, subst, inl, inr}
+use Rattle.cli_model.proofs.Common.{append-nil, append_assoc, IfSome, ChipView, Files, Known}
+use Rattle.std.proofs.Common.{cond}
+use Rattle.std.specs.Prelude.{nat_lt}
 use Rattle.std.proofs.lemmas.Bool.{ltb-false}
-use Rattle.dram_model.specs.View.{ChipView}
-use Rattle.host_edge.specs.Views.{Files, Known}
 use Rattle.cli_model.specs.World.{World, with_file}
 use Rattle.cli_model.specs.Steps.{Step, Load, Take, Store, Open, Use, UseFor, Put, Print, Refusal}
 use Rattle.cli_model.specs.Steps.{TooLong, End, Done, Stopped}
 use Rattle.cli_model.specs.Stands.{files_after, sent_by}
 use Rattle.cli_model.specs.Foreseen.{foreseen, load_end, refused_or}
 use Rattle.cli_model.specs.Ends.{Ended, All, At, EndsSo, IsForetold}
-use Rattle.cli_model.specs.Plan.{Plan, Loads, Makes, Then, Answers, Refuses, Way, steps_of, AreTexts}
-use Rattle.cli_model.specs.Plan.{refused_last, last_status, Leaves}
+use Rattle.cli_model.specs.Plan.{Plan, Loads, Makes, Then, Answers, Refuses, Way, steps_of}
+use Rattle.cli_model.specs.Plan.{AreTexts, refused_last, last_status, Leaves}
 use Rattle.cli_model.proofs.Delivers.{Delivers}
 use Rattle.cli_model.specs.Runs.{EndsBy, LeavesAt, TellsLast}
 use Rattle.cli_model.proofs.Owed.{Gives}

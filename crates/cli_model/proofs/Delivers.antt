@@ -1,7 +1,5 @@
 -- What a plan delivers.
-use Rattle.std.specs.Prelude.{◌≡◌, ℕ, List, ◌++◌, Some, Ok}
-use Rattle.dram_model.specs.View.{ChipView}
-use Rattle.host_edge.specs.Views.{Files}
+use Rattle.cli_model.proofs.Common.{◌≡◌, ℕ, List, ◌++◌, Some, Ok, ChipView, Files}
 use Rattle.cli_model.specs.Stands.{files_after, sent_by}
 use Rattle.cli_model.specs.Plan.{Plan, Loads, Makes, Then, Answers, Refuses}
 

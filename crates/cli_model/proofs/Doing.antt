@@ -1,14 +1,11 @@
 -- The pieces of a plan, as calls of a folder, a sink and a chip do them.
-use Rattle.std.proofs.Common.{◌≡◌, ℕ, ◌≤◌, List, [], ◌∷◌, ◌++◌, Option, Some, None}
-use Rattle.std.proofs.Common.{refl, ap, inl, inr, arith}
-use Rattle.std.specs.Prelude.{Result, Ok, Err, IfSome}
-use Rattle.dram_model.specs.View.{ChipView}
-use Rattle.faults.specs.Counts.{Rose}
-use Rattle.host_edge.specs.Views.{Files, FolderView, SinkView, Known, AppendsPart}
+use Rattle.cli_model.proofs.Common.{◌≡◌, ℕ, ◌≤◌, List, [], ◌∷◌, ◌++◌, Option, Some, None, refl, ap}
+use Rattle.cli_model.proofs.Common.{inl, inr, arith, Result, Ok, Err, IfSome, ChipView, Rose, Files}
+use Rattle.cli_model.proofs.Common.{FolderView, Known, AppendsPart}
+use Rattle.host_edge.specs.Views.{SinkView}
 use Rattle.cli_model.specs.World.{World, world}
 use Rattle.cli_model.specs.Steps.{Take, Put, Refusal, Reason, Refused, NoMemory, PutFailed}
-use Rattle.cli_model.specs.Steps.{CannotWrite, Store, Stored, Unstored}
-use Rattle.cli_model.specs.Steps.{ReadsOnly, Sent}
+use Rattle.cli_model.specs.Steps.{CannotWrite, Store, Stored, Unstored, ReadsOnly, Sent}
 use Rattle.cli_model.specs.Plan.{Plan, Loads, Then}
 use Rattle.cli_model.specs.Reads.{refusal_of, IsText, LoadedAs, NotLoaded, ReadAs, NotRead}
 use Rattle.cli_model.specs.Runs.{Runs}
@@ -27,7 +24,7 @@ nothing_read w = record {
   chip = refl;
 }
 
--- memory was wanting where the plan takes it: the plan ends there
+-- out of memory where the plan takes it: the plan ends there
 pub wants : (rest : Plan) (w : World) → Runs (Then (Take ∷ []) rest) w w (Err NoMemory)
 wants rest w = runs_stopped (Take ∷ []) rest NoMemory w w (inr (refl, nothing_read w))
 
@@ -35,7 +32,7 @@ wants rest w = runs_stopped (Take ∷ []) rest NoMemory w w (inr (refl, nothing_
 pub takes : (rest : Plan) (result : Result ℕ Reason) (w new : World) → Runs rest w new result
     → Runs (Then (Take ∷ []) rest) w new result
 takes rest result w new r =
-    runs_then (Take ∷ []) rest result w w new (inl (w, (nothing_read w, refl))) r
+    runs_then (Take ∷ []) rest result w w new (inl (w, (refl, refl))) r
 
 sent : (R : List ℕ → List ℕ → Type 0) (files : FolderView) (old new : SinkView)
     (chip : ChipView)
@@ -54,15 +51,15 @@ unput text rest files s t chip p n r =
 -- a line was sent, and the rest of the plan was done
 pub puts : (text : List ℕ) (rest : Plan) (result : Result ℕ Reason) (files : FolderView)
     (s t : SinkView) (chip : ChipView) (new : World)
-    → Known (λ before after. after ≡ before ++ text) s.sent t.sent → s.faults ≤ t.faults
+    → Known (λ before after. after ≡ before ++ text) s.sent t.sent → t.faults ≡ s.faults
     → Runs rest (world files t chip) new result
     → Runs (Then (Put text ∷ []) rest) (world files s chip) new result
-puts text rest result files s t chip new p n r =
+puts text rest result files s t chip new p e r =
     runs_then (Put text ∷ []) rest result (world files s chip) (world files t chip) new
     (inl (
       world files t chip,
       (
-        sent (λ before after. after ≡ before ++ text) files s t chip p n,
+        (sent (λ before after. after ≡ before ++ text) files s t chip p (omega (arith, e)), e),
         refl,
       ),
     )) r
@@ -119,7 +116,7 @@ known_is_text : (holds : Option Files) (name : List ℕ) → IsText holds name (
 known_is_text None name = tt
 known_is_text (Some files) name = bytes_text (files name)
 
--- one that was not loaded, is refused, or could not be read for want of memory
+-- one that was not loaded, is refused, or could not be read, out of memory
 pub unloaded : {A : Type 0} (name : List ℕ) (limit : ℕ) (read : List ℕ → Result A Refusal)
     (rest : List ℕ → A → Plan) (reason : Reason) (old new : FolderView) (sink : SinkView) (chip : ChipView)
     → NotLoaded name limit reason old new

@@ -1,25 +1,24 @@
 -- How a command that went through its steps ends.
-use Rattle.std.proofs.Common.{◌≡◌, ℕ, ◌+◌, ◌≤◌, List, [], ◌∷◌, ◌++◌, Option, Some, None, refl}
-use Rattle.std.proofs.Common.{sym, ◌∙◌, ap, subst, inl, inr, arith, append_assoc, append-nil}
-use Rattle.std.specs.Prelude.{IfSome}
-use Rattle.host_edge.specs.Views.{Files, Known, AppendsPart, IsPrefix}
-use Rattle.faults.specs.Counts.{Rose, RoseBy}
+use Rattle.cli_model.proofs.Common.{◌≡◌, ℕ, ◌≤◌, List, [], ◌∷◌, ◌++◌, Option, Some, None, refl, sym}
+use Rattle.cli_model.proofs.Common.{◌∙◌, ap, subst, inl, inr, arith, append_assoc, append-nil}
+use Rattle.cli_model.proofs.Common.{IfSome, Files, Known, AppendsPart, Rose, RoseBy, ChipView}
+use Rattle.std.proofs.Common.{◌+◌}
+use Rattle.host_edge.specs.Views.{IsPrefix}
 use Rattle.cli_model.specs.World.{World}
-use Rattle.cli_model.specs.Waves.{IsDoneBy, IsLeftBy, StoppedIn}
-use Rattle.cli_model.specs.Steps.{IsLeftUnopened}
-use Rattle.cli_model.specs.Steps.{Step, Load, Take, Store, Open, Use, UseFor, Put, Print, Reason}
-use Rattle.cli_model.specs.Steps.{CannotRead, TooLong, Refused, NoMemory, CannotWrite, PutFailed}
-use Rattle.cli_model.specs.Steps.{ChipFailed}
-use Rattle.cli_model.specs.Steps.{End, Done, Stopped, Goes, Fails, Unopened}
-use Rattle.dram_model.specs.View.{ChipView, NotBegun}
-use Rattle.cli_model.specs.Stands.{files_after, sent_by, CountsOn}
+use Rattle.cli_model.specs.Waves.{IsLeftBy, StoppedIn}
+use Rattle.cli_model.specs.Steps.{IsLeftUnopened, Step, Load, Take, Store, Open, Use, UseFor, Put}
+use Rattle.cli_model.specs.Steps.{Print, Reason, CannotRead, TooLong, Refused, NoMemory}
+use Rattle.cli_model.specs.Steps.{CannotWrite, PutFailed, ChipFailed, End, Done, Stopped, Goes}
+use Rattle.cli_model.specs.Steps.{Fails, Unopened}
+use Rattle.dram_model.specs.View.{NotBegun}
+use Rattle.cli_model.specs.Stands.{files_after, sent_by, CountsOn, NoneRose}
 use Rattle.cli_model.specs.Status.{reason_status, reason_line, Says, Tells, end_status}
-use Rattle.cli_model.specs.Ends.{Stop, All, At, Causes, LastOfPrint, IsLast, AppendsAfter}
-use Rattle.cli_model.specs.Ends.{Sends, IsStoreOf, LeavesFiles, IsFault, IsForetold, Ends}
+use Rattle.cli_model.specs.Ends.{Stop, All, At, Causes, LastOfPrint, IsLast, AppendsAfter, Sends}
+use Rattle.cli_model.specs.Ends.{IsStoreOf, LeavesFiles, IsFault, IsForetold, Ends}
 use Rattle.cli_model.specs.Laws.{FirstDecides}
 use Rattle.cli_model.proofs.Causing.{Decided, files_decide}
-use Rattle.cli_model.proofs.Going.{within, more_counts, known_sent, all_stand}
-use Rattle.cli_model.proofs.Going.{Stands, all_faults, all_off, stopped_at}
+use Rattle.cli_model.proofs.Going.{within, more_counts, known_sent, all_stand, Stands, all_faults}
+use Rattle.cli_model.proofs.Going.{all_off, stopped_at, goes_left, none_rose}
 
 -- why a step fails
 
@@ -45,7 +44,7 @@ fails_causes (Open on) reason a b (inr f) = inr (f.0, f.2, f.3)
 fails_causes (Use on) reason a b f = (f.0, f.2, f.3)
 fails_causes (UseFor wave) reason a b f = (f.0, f.2, f.3)
 fails_causes (Put bytes) reason a b f = (f.0, f.2)
-fails_causes (Print on bytes) reason a b (inl f) = inl (f.0, f.2, f.3)
+fails_causes (Print on bytes) reason a b (inl f) = inl (f.0, f.2)
 fails_causes (Print on bytes) reason a b (inr f) = inr (f.0, f.2, f.3)
 
 -- a count that rose between two moments rose between moments around them
@@ -90,11 +89,8 @@ causes_around (UseFor wave) reason a b c d p q e f = (
   subst (λ (v : ChipView). StoppedIn wave v.banks) (sym e) f.2,
 )
 causes_around (Put bytes) reason a b c d p q e f = (f.0, around _ _ _ _ 1 p.sink f.1 q.sink)
-causes_around (Print on bytes) reason a b c d p q e (inl f) = inl (
-  f.0,
-  around _ _ _ _ 1 p.sink f.1 q.sink,
-  subst (λ (v : ChipView). IsDoneBy on v.banks) (sym e) f.2,
-)
+causes_around (Print on bytes) reason a b c d p q e (inl f) =
+    inl (f.0, around _ _ _ _ 1 p.sink f.1 q.sink)
 causes_around (Print on bytes) reason a b c d p q e (inr f) = inr (
   f.0,
   around _ _ _ _ 1 p.chip f.1 q.chip,
@@ -355,7 +351,7 @@ says_counts line a b s = record {
 same_world : (steps : List Step) (a b c : World) → c ≡ b → Stands steps a b → Stands steps a c
 same_world steps a b c e s = subst (Stands steps a) (sym e) s
 
--- want of memory leaves a chip that was not opened
+-- a command out of memory leaves a chip that was not opened
 
 load_unopened : (name : List ℕ) (limit : ℕ) (text : List ℕ) (refusal : _) (reason : Reason)
     (a b : World) → Fails (Load name limit text refusal) reason a b → b.chip ≡ a.chip
@@ -396,11 +392,17 @@ all_ends steps done a b c status g e answers =
     let stands = same_world steps a b c e (all_stand steps a b g) in
     let ends : Ends steps done a c status = record {
       ended = All;
-      so = record { answers = answers; sent = stands.sent; files = stands.files };
+      so = record {
+        answers = answers;
+        sent = stands.sent;
+        files = stands.files;
+        unfailed = subst (NoneRose a) (sym e) (none_rose steps a b g);
+      };
       foretold = if_known a.files.holds (IsForetold steps All)
           (λ files there. done_foretold steps files (files_decide steps Done a b files g there));
       counts = stands.counts;
       faults = λ none. ap (λ w. w.chip.faults) e ∙ all_faults steps a b g;
+      banks = λ none. ap (λ w. w.chip.banks) e ∙ goes_left steps a b g;
       chip = λ off. ap (λ w. w.chip) e ∙ all_off steps a b g off;
       unopened = λ off w. elim w [ ];
     } in
@@ -432,6 +434,7 @@ stop_ends steps done reason a b c status g says answers =
           (files_decide steps (Stopped reason) a b files g there));
       counts = more_counts a b c s.counts (says_counts _ b c says);
       faults = λ none. ap (λ v. v.faults) says.chip ∙ s.faults none;
+      banks = λ none. ap (λ v. v.banks) says.chip ∙ s.left none;
       chip = λ off. says.chip ∙ s.off off;
       unopened = λ off w. unopened_around a.chip s.failing.chip b.chip c.chip
           (all_off s.front a s.failing s.goes off)

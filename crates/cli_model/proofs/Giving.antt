@@ -1,7 +1,6 @@
 -- Which statuses a plan gives.
-use Rattle.std.proofs.Common.{◌≡◌, ℕ, None, refl}
-use Rattle.std.proofs.Common.{sym, subst, inl, inr, ◌⊎◌}
-use Rattle.std.specs.Prelude.{Result, Ok, Err, IfErr}
+use Rattle.cli_model.proofs.Common.{◌≡◌, ℕ, None, refl, sym, subst, inl, inr, ◌⊎◌, Result, Ok, Err}
+use Rattle.cli_model.proofs.Common.{IfErr, ChipView}
 use Rattle.cli_model.specs.World.{World}
 use Rattle.cli_model.specs.Steps.{Refusal}
 use Rattle.cli_model.specs.Ends.{Ended, All, At, EndsSo}
@@ -9,7 +8,6 @@ use Rattle.cli_model.proofs.Statuses.{OfSteps, of_more, stop_so}
 use Rattle.cli_model.specs.Plan.{Plan, Loads, Makes, Then, Answers, Refuses, Way, steps_of}
 use Rattle.cli_model.specs.Plan.{last_status, refused_last, Leaves}
 use Rattle.cli_model.specs.Runs.{EndsBy, LeavesAt}
-use Rattle.dram_model.specs.View.{ChipView}
 use Rattle.cli_model.proofs.Owed.{Gives}
 
 -- the status of a refusal is one that refusals of this reader have

@@ -1,18 +1,14 @@
 -- How commands go.
-use Rattle.std.proofs.Common.{◌≡◌, ℕ, ◌≤◌, List, [], ◌∷◌, ◌++◌, Option, Some, None, refl, sym}
-use Rattle.std.proofs.Common.{◌∙◌, ap, subst, inl, inr, arith, append_assoc, append-nil}
-use Rattle.std.specs.Prelude.{false}
-use Rattle.std.specs.List.{list_any}
-use Rattle.host_edge.specs.Views.{Files, FolderView, NoCountFalls, Known}
-use Rattle.faults.specs.Counts.{RoseBy}
+use Rattle.cli_model.proofs.Common.{◌≡◌, ℕ, ◌≤◌, List, [], ◌∷◌, ◌++◌, Option, Some, None, refl, sym}
+use Rattle.cli_model.proofs.Common.{◌∙◌, ap, subst, inl, inr, arith, append_assoc, append-nil}
+use Rattle.cli_model.proofs.Common.{false, list_any, Files, FolderView, Known, RoseBy, Banks}
+use Rattle.host_edge.specs.Views.{NoCountFalls, Unfailed}
 use Rattle.cli_model.specs.World.{World}
 use Rattle.cli_model.specs.Steps.{Step, Load, Take, Store, Open, Use, UseFor, Put, Print, Reason}
 use Rattle.cli_model.specs.Steps.{CannotRead, TooLong, Refused, NoMemory, CannotWrite, PutFailed}
-use Rattle.cli_model.specs.Steps.{ChipFailed}
-use Rattle.cli_model.specs.Steps.{End, Done, Stopped, Goes, StepDone, Fails, ReadsOnly, Stored}
-use Rattle.cli_model.specs.Steps.{Used, UseFailed, PrintFailed}
-use Rattle.cli_model.specs.Steps.{Sent, Printed, Unstored}
-use Rattle.cli_model.specs.Stands.{files_after, sent_by, CountsOn}
+use Rattle.cli_model.specs.Steps.{ChipFailed, End, Done, Stopped, Goes, StepDone, Fails, ReadsOnly}
+use Rattle.cli_model.specs.Steps.{Stored, Used, UseFailed, PrintFailed, Sent, Printed, Unstored}
+use Rattle.cli_model.specs.Stands.{files_after, sent_by, CountsOn, left_by, all_left, NoneRose}
 use Rattle.cli_model.specs.Ends.{is_on_chip, may_fault}
 
 -- all of these steps were done
@@ -77,8 +73,8 @@ no_falls f = record {
   taken = omega arith;
 }
 
-used_count : (a b : World) → Used a b → CountsOn a b
-used_count a b u = record {
+used_count : (banks : Banks) (a b : World) → Used banks a b → CountsOn a b
+used_count banks a b u = record {
   files = rw u.files (no_falls a.files);
   sink = rw u.sink (omega arith);
   chip = rw u.chip (omega arith);
@@ -98,8 +94,9 @@ sent_count R a b s = record {
   chip = rw (ap (λ v. v.faults) s.chip) (omega arith);
 }
 
-pub printed_count : (R : List ℕ → List ℕ → Type 0) (a b : World) → Printed R a b → CountsOn a b
-printed_count R a b p = record {
+pub printed_count : (R : List ℕ → List ℕ → Type 0) (banks : Banks) (a b : World)
+    → Printed R banks a b → CountsOn a b
+printed_count R banks a b p = record {
   files = rw p.files (no_falls a.files);
   sink = p.faults;
   chip = rw p.chip (omega arith);
@@ -128,13 +125,13 @@ unstored_count name a b s = record {
 
 pub does_count : (step : Step) (a b : World) → StepDone step a b → CountsOn a b
 does_count (Load name limit text refusal) a b d = reads_count a b d.1.reads
-does_count Take a b d = reads_count a b d
+does_count Take a b d = subst (CountsOn a) (sym d) (same_counts a)
 does_count (Store name bytes) a b d = stored_count name bytes a b d
-does_count (Open on) a b d = used_count a b d
-does_count (Use on) a b d = used_count a b d
-does_count (UseFor wave) a b d = used_count a b d
-does_count (Put bytes) a b d = sent_count _ a b d
-does_count (Print on bytes) a b d = printed_count _ a b d
+does_count (Open on) a b d = used_count _ a b d
+does_count (Use on) a b d = used_count _ a b d
+does_count (UseFor wave) a b d = used_count _ a b d
+does_count (Put bytes) a b d = sent_count _ a b d.0
+does_count (Print on bytes) a b d = printed_count _ _ a b d.0
 
 load_fails_count : (name : List ℕ) (limit : ℕ) (text : List ℕ) (refusal : _) (reason : Reason)
     (a b : World) → Fails (Load name limit text refusal) reason a b → CountsOn a b
@@ -157,7 +154,7 @@ fails_count (Open on) reason a b (inr f) = unused_count a b f.1
 fails_count (Use on) reason a b f = unused_count a b f.1
 fails_count (UseFor wave) reason a b f = unused_count a b f.1
 fails_count (Put bytes) reason a b f = sent_count _ a b f.1
-fails_count (Print on bytes) reason a b (inl f) = printed_count _ a b f.1
+fails_count (Print on bytes) reason a b (inl f) = printed_count _ _ a b f.1
 fails_count (Print on bytes) reason a b (inr f) = unprinted_count bytes a b f.1
 
 pub known_same : {A : Type 0} (a b : Option A) → b ≡ a → Known (λ x y. y ≡ x) a b
@@ -188,8 +185,8 @@ one_stands (Load name limit text refusal) a b d =
           does_count (Load name limit text refusal) a b d;
     }
 one_stands Take a b d = record {
-  files = known_same _ _ d.files;
-  sent = known_unsent _ _ (ap (λ s. s.sent) d.sink);
+  files = known_same _ _ (ap (λ (w : World). w.files.holds) d);
+  sent = known_unsent _ _ (ap (λ (w : World). w.sink.sent) d);
   counts = does_count Take a b d;
 }
 one_stands (Store name bytes) a b d = record {
@@ -213,13 +210,13 @@ one_stands (UseFor wave) a b d = record {
   counts = does_count (UseFor wave) a b d;
 }
 one_stands (Put bytes) a b d = record {
-  files = known_same _ _ (ap (λ f. f.holds) d.files);
-  sent = rw append-nil d.sent;
+  files = known_same _ _ (ap (λ f. f.holds) d.0.files);
+  sent = rw append-nil d.0.sent;
   counts = does_count (Put bytes) a b d;
 }
 one_stands (Print on bytes) a b d = record {
-  files = known_same _ _ (ap (λ f. f.holds) d.files);
-  sent = rw append-nil d.sent;
+  files = known_same _ _ (ap (λ f. f.holds) d.0.files);
+  sent = rw append-nil d.0.sent;
   counts = does_count (Print on bytes) a b d;
 }
 
@@ -281,13 +278,13 @@ all_stand (step ∷ steps) a b (inr f) = elim f [ ]
 -- a step that was done leaves the count of the chip's faults
 does_faults : (step : Step) (a b : World) → StepDone step a b → b.chip.faults ≡ a.chip.faults
 does_faults (Load name limit text refusal) a b d = ap (λ v. v.faults) d.1.reads.chip
-does_faults Take a b d = ap (λ v. v.faults) d.chip
+does_faults Take a b d = ap (λ (w : World). w.chip.faults) d
 does_faults (Store name bytes) a b d = ap (λ v. v.faults) d.chip
 does_faults (Open on) a b d = d.chip
 does_faults (Use on) a b d = d.chip
 does_faults (UseFor wave) a b d = d.chip
-does_faults (Put bytes) a b d = ap (λ v. v.faults) d.chip
-does_faults (Print on bytes) a b d = d.chip
+does_faults (Put bytes) a b d = ap (λ v. v.faults) d.0.chip
+does_faults (Print on bytes) a b d = d.0.chip
 
 pub all_faults : (steps : List Step) (a b : World) → Goes steps Done a b
     → b.chip.faults ≡ a.chip.faults
@@ -296,16 +293,78 @@ all_faults (step ∷ steps) a b (inl (mid, (d, g))) =
     all_faults steps mid b g ∙ does_faults step a mid d
 all_faults (step ∷ steps) a b (inr f) = elim f [ ]
 
+-- nor does it raise another count of faults
+same_files : (a b : FolderView) → b ≡ a → Unfailed a b
+same_files a b e = record {
+  load_faults = λ name. ap (λ (f : FolderView). f.load_faults name) e;
+  store_faults = ap (λ (f : FolderView). f.store_faults) e;
+}
+
+does_files : (step : Step) (a b : World) → StepDone step a b → Unfailed a.files b.files
+does_files (Load name limit text refusal) a b d = d.1.unfailed
+does_files Take a b d = same_files _ _ (ap (λ (w : World). w.files) d)
+does_files (Store name bytes) a b d = d.unfailed
+does_files (Open on) a b d = same_files _ _ d.files
+does_files (Use on) a b d = same_files _ _ d.files
+does_files (UseFor wave) a b d = same_files _ _ d.files
+does_files (Put bytes) a b d = same_files _ _ d.0.files
+does_files (Print on bytes) a b d = same_files _ _ d.0.files
+
+does_sink : (step : Step) (a b : World) → StepDone step a b → b.sink.faults ≡ a.sink.faults
+does_sink (Load name limit text refusal) a b d = ap (λ s. s.faults) d.1.reads.sink
+does_sink Take a b d = ap (λ (w : World). w.sink.faults) d
+does_sink (Store name bytes) a b d = ap (λ s. s.faults) d.sink
+does_sink (Open on) a b d = ap (λ s. s.faults) d.sink
+does_sink (Use on) a b d = ap (λ s. s.faults) d.sink
+does_sink (UseFor wave) a b d = ap (λ s. s.faults) d.sink
+does_sink (Put bytes) a b d = d.1
+does_sink (Print on bytes) a b d = d.1
+
+pub none_rose : (steps : List Step) (a b : World) → Goes steps Done a b → NoneRose a b
+none_rose [] a b e = subst (NoneRose a) (sym e)
+    (record { files = same_files a.files a.files refl; sink = refl; chip = refl })
+none_rose (step ∷ steps) a b (inl (mid, (d, g))) =
+    let one = does_files step a mid d in
+    let more = none_rose steps mid b g in
+    record {
+      files = record {
+        load_faults = λ name. more.files.load_faults name ∙ one.load_faults name;
+        store_faults = more.files.store_faults ∙ one.store_faults;
+      };
+      sink = more.sink ∙ does_sink step a mid d;
+      chip = more.chip ∙ does_faults step a mid d;
+    }
+none_rose (step ∷ steps) a b (inr f) = elim f [ ]
+
+-- what it leaves in the banks
+does_left : (step : Step) (a b : World) → StepDone step a b
+    → b.chip.banks ≡ left_by step a.chip.banks
+does_left (Load name limit text refusal) a b d = ap (λ v. v.banks) d.1.reads.chip
+does_left Take a b d = ap (λ (w : World). w.chip.banks) d
+does_left (Store name bytes) a b d = ap (λ v. v.banks) d.chip
+does_left (Open on) a b d = d.left
+does_left (Use on) a b d = d.left
+does_left (UseFor wave) a b d = d.left
+does_left (Put bytes) a b d = ap (λ v. v.banks) d.0.chip
+does_left (Print on bytes) a b d = d.0.left
+
+pub goes_left : (steps : List Step) (a b : World) → Goes steps Done a b
+    → b.chip.banks ≡ all_left steps a.chip.banks
+goes_left [] a b e = ap (λ (w : World). w.chip.banks) e
+goes_left (step ∷ steps) a b (inl (mid, (d, g))) =
+    goes_left steps mid b g ∙ ap (all_left steps) (does_left step a mid d)
+goes_left (step ∷ steps) a b (inr f) = elim f [ ]
+
 -- a step that is not on the chip leaves it
 does_chip : (step : Step) (a b : World) → is_on_chip step ≡ false → StepDone step a b
     → b.chip ≡ a.chip
 does_chip (Load name limit text refusal) a b off d = d.1.reads.chip
-does_chip Take a b off d = d.chip
+does_chip Take a b off d = ap (λ (w : World). w.chip) d
 does_chip (Store name bytes) a b off d = d.chip
 does_chip (Open on) a b off d = absurd (cc)
 does_chip (Use on) a b off d = absurd (cc)
 does_chip (UseFor wave) a b off d = absurd (cc)
-does_chip (Put bytes) a b off d = d.chip
+does_chip (Put bytes) a b off d = d.0.chip
 does_chip (Print on bytes) a b off d = absurd (cc)
 
 load_chip : (name : List ℕ) (limit : ℕ) (text : List ℕ) (refusal : _) (reason : Reason)
@@ -345,6 +404,20 @@ fails_faults (Put bytes) reason a b none f = ap (λ v. v.faults) f.1.chip
 fails_faults (Print on bytes) reason a b none (inl f) = f.1.chip
 fails_faults (Print on bytes) reason a b none (inr f) = absurd (cc (none, f.0))
 
+fails_left : (step : Step) (reason : Reason) (a b : World) → may_fault step reason ≡ false
+    → Fails step reason a b → b.chip.banks ≡ left_by step a.chip.banks
+fails_left (Load name limit text refusal) reason a b none f =
+    ap (λ v. v.banks) (load_chip name limit text refusal reason a b f)
+fails_left Take reason a b none f = ap (λ v. v.banks) f.1.chip
+fails_left (Store name bytes) reason a b none f = ap (λ v. v.banks) f.1.chip
+fails_left (Open on) reason a b none (inl f) = absurd (cc (none, f.0))
+fails_left (Open on) reason a b none (inr f) = absurd (cc (none, f.0))
+fails_left (Use on) reason a b none f = absurd (cc (none, f.0))
+fails_left (UseFor wave) reason a b none f = absurd (cc (none, f.0))
+fails_left (Put bytes) reason a b none f = ap (λ v. v.banks) f.1.chip
+fails_left (Print on bytes) reason a b none (inl f) = f.1.left
+fails_left (Print on bytes) reason a b none (inr f) = absurd (cc (none, f.0))
+
 -- the first step is off the chip, and so are the others
 first_off : (step : Step) (steps : List Step) → list_any is_on_chip (step ∷ steps) ≡ false
     → (is_on_chip step ≡ false) × (list_any is_on_chip steps ≡ false)
@@ -377,6 +450,8 @@ pub record StoppedAt (steps : List Step) (reason : Reason) (old new : World) : T
   pub fails : Fails at reason failing new
   pub counts : CountsOn old new
   pub faults : may_fault at reason ≡ false → new.chip.faults ≡ old.chip.faults
+  pub left : may_fault at reason ≡ false
+      → new.chip.banks ≡ all_left (front ++ at ∷ []) old.chip.banks
   pub off : list_any is_on_chip (front ++ at ∷ []) ≡ false → new.chip ≡ old.chip
 
 pub stopped_at : (steps : List Step) (reason : Reason) (a b : World)
@@ -395,6 +470,7 @@ stopped_at (step ∷ steps) reason a b (inl (mid, (d, g))) =
       fails = s.fails;
       counts = more_counts a mid b (does_count step a mid d) s.counts;
       faults = λ none. s.faults none ∙ does_faults step a mid d;
+      left = λ none. s.left none ∙ ap (all_left (s.front ++ s.at ∷ [])) (does_left step a mid d);
       off = λ o. let parts = first_off step (s.front ++ s.at ∷ []) o in
           s.off parts.1 ∙ does_chip step a mid parts.0 d;
     }
@@ -409,5 +485,6 @@ stopped_at (step ∷ steps) reason a b (inr f) = record {
   fails = f;
   counts = fails_count step reason a b f;
   faults = λ none. fails_faults step reason a b none f;
+  left = λ none. fails_left step reason a b none f;
   off = λ o. fails_chip step reason a b (first_off step [] o).0 f;
 }

@@ -1,12 +1,8 @@
--- Where its files are good and nothing failed, a command is done, is refused as it may be, or
--- memory was wanting.
-use Rattle.std.proofs.Common.{◌≡◌, ◌⊎◌, ◌≤◌, ℕ, List, [], ◌∷◌, ◌++◌, length}
-use Rattle.std.proofs.Common.{Option, Some, None, refl, sym, ◌∙◌, ap, subst, inl, inr, arith}
-use Rattle.std.specs.Prelude.{Result, Ok, Err, IfSome}
-use Rattle.std.proofs.lemmas.Bool.{le-ltb}
-use Rattle.host_edge.specs.Views.{Files, FolderView}
-use Rattle.dram_model.specs.View.{ChipView}
-use Rattle.faults.specs.Counts.{Rose}
+-- Where its files are good and nothing failed, a command is done, is refused as it may be, or is
+-- out of memory.
+use Rattle.cli_model.proofs.Common.{◌≡◌, ◌⊎◌, ◌≤◌, ℕ, List, [], ◌∷◌, ◌++◌, length, Option, Some}
+use Rattle.cli_model.proofs.Common.{None, refl, sym, ◌∙◌, ap, subst, inl, inr, arith, Result, Ok}
+use Rattle.cli_model.proofs.Common.{Err, IfSome, le-ltb, Files, FolderView, ChipView, Rose}
 use Rattle.cli_model.specs.World.{World, with_file}
 use Rattle.cli_model.specs.Steps.{Step, Load, Take, Store, Open, Use, UseFor, Put, Print, Refusal}
 use Rattle.cli_model.specs.Steps.{Reason, CannotRead, TooLong, Refused, NoMemory, CannotWrite}
@@ -17,8 +13,8 @@ use Rattle.cli_model.specs.Foreseen.{foreseen}
 use Rattle.cli_model.specs.Ends.{Stop, Ended, All, At, Causes, EndsSo, IsForetold, IsFault}
 use Rattle.cli_model.specs.Ends.{IsStopped}
 use Rattle.cli_model.proofs.Statuses.{OfSteps, OfStep, of_more, stop_so}
-use Rattle.cli_model.specs.Plan.{Plan, Loads, Makes, Then, Answers, Refuses, Way, steps_of, AreTexts}
-use Rattle.cli_model.specs.Plan.{refused_last, last_status, Leaves}
+use Rattle.cli_model.specs.Plan.{Plan, Loads, Makes, Then, Answers, Refuses, Way, steps_of}
+use Rattle.cli_model.specs.Plan.{AreTexts, refused_last, last_status, Leaves}
 use Rattle.cli_model.specs.Runs.{EndsBy, LeavesAt, TellsLast}
 use Rattle.cli_model.proofs.Owed.{GoodFor, files_then}
 use Rattle.cli_model.specs.Faultless.{NothingFailed, file_in}

@@ -1,3 +1,4 @@
+pub mod Common
 pub mod Going
 pub mod Causing
 pub mod Ending

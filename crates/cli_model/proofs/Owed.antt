@@ -1,7 +1,6 @@
 -- What a plan owes: which statuses come, which files are good, and where memory is taken.
-use Rattle.std.specs.Prelude.{◌≡◌, ◌⊎◌, ◌≤◌, ℕ, List, [], ◌∷◌, length, Option, Some, None}
-use Rattle.std.specs.Prelude.{Ok, Err, IfErr}
-use Rattle.host_edge.specs.Views.{Files}
+use Rattle.cli_model.proofs.Common.{◌≡◌, ◌⊎◌, ◌≤◌, ℕ, List, [], ◌∷◌, length, Option, Some, None, Ok}
+use Rattle.cli_model.proofs.Common.{Err, IfErr, Files}
 use Rattle.cli_model.specs.Steps.{Step, Load, Take, Store, Open, Use, UseFor, Put, Print, Refusal}
 use Rattle.cli_model.specs.Stands.{files_after}
 use Rattle.cli_model.specs.Plan.{Plan, Loads, Makes, Then, Answers, Refuses}
@@ -36,7 +35,7 @@ GoodFor P (Then steps rest) holds =
 GoodFor P (Answers status left) holds = P status
 GoodFor P (Refuses refusal left) holds = P refusal.status
 
--- any status but that of want of memory
+-- any status but that of a command out of memory
 abbrev pub NotTen : ℕ → Type 0
 NotTen s = s ≡ 10 → ⊥
 

@@ -1,19 +1,17 @@
 -- How plans are gone through, piece by piece.
-use Rattle.std.proofs.Common.{◌≡◌, ℕ, List, [], ◌∷◌, ◌++◌, Option, Some, None, refl}
-use Rattle.std.proofs.Common.{sym, ◌∙◌, ap, subst, inl, inr}
-use Rattle.std.specs.Prelude.{Result, Ok, Err, IfSome}
-use Rattle.dram_model.specs.View.{ChipView}
-use Rattle.host_edge.specs.Views.{Files, Known}
+use Rattle.cli_model.proofs.Common.{◌≡◌, ℕ, List, [], ◌∷◌, ◌++◌, Option, Some, None, refl, sym, ◌∙◌}
+use Rattle.cli_model.proofs.Common.{ap, subst, inl, inr, Result, Ok, Err, IfSome, ChipView, Files}
+use Rattle.cli_model.proofs.Common.{Known}
 use Rattle.cli_model.specs.World.{World}
-use Rattle.cli_model.specs.Steps.{Step, Load, Refusal, Reason, Refused, Done, Stopped, Goes}
-use Rattle.cli_model.specs.Steps.{Loaded, LoadFails}
+use Rattle.cli_model.specs.Steps.{Step, Load, Refusal, Reason, Refused, Done, Stopped, Goes, Loaded}
+use Rattle.cli_model.specs.Steps.{LoadFails}
 use Rattle.cli_model.specs.Stands.{files_after}
 use Rattle.cli_model.specs.Status.{Says, reason_line, reason_status}
 use Rattle.cli_model.specs.Ends.{Ended, All, At}
 use Rattle.cli_model.proofs.Going.{goes_on, stops, all_stand}
 use Rattle.cli_model.proofs.Ending.{all_ends, stop_ends}
-use Rattle.cli_model.specs.Plan.{Plan, Loads, Makes, Then, Answers, Refuses, Way, steps_of, AreTexts}
-use Rattle.cli_model.specs.Plan.{refused_last, last_status, Leaves}
+use Rattle.cli_model.specs.Plan.{Plan, Loads, Makes, Then, Answers, Refuses, Way, steps_of}
+use Rattle.cli_model.specs.Plan.{AreTexts, refused_last, last_status, Leaves}
 use Rattle.cli_model.specs.Reads.{refusal_of, IsText}
 use Rattle.cli_model.specs.Runs.{Went, Runs, TellsLast, LeavesAt, EndsBy}
 

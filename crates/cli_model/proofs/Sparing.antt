@@ -1,9 +1,8 @@
--- What want of memory leaves.
-use Rattle.std.proofs.Common.{◌≡◌, ◌⊎◌, ℕ, List, [], ◌∷◌, ◌++◌, Option, Some, None, refl}
-use Rattle.std.proofs.Common.{sym, ◌∙◌, ap, subst, inl, inr, false}
-use Rattle.std.specs.Prelude.{◌≢◌, codes}
-use Rattle.std.specs.List.{list_any}
-use Rattle.host_edge.specs.Views.{Files, Known}
+-- What a command out of memory leaves.
+use Rattle.cli_model.proofs.Common.{◌≡◌, ◌⊎◌, ℕ, List, [], ◌∷◌, ◌++◌, Option, Some, None, refl, sym}
+use Rattle.cli_model.proofs.Common.{◌∙◌, ap, subst, inl, inr, false, ◌≢◌, list_any, Files, Known}
+use Rattle.cli_model.proofs.Common.{ChipView}
+use Rattle.std.specs.Prelude.{codes}
 use Rattle.cli_model.specs.Waves.{ChipUse}
 use Rattle.cli_model.specs.World.{World, with_file}
 use Rattle.cli_model.specs.Steps.{Step, Load, Take, Store, Open, Use, UseFor, Put, Print, Refusal}
@@ -22,7 +21,6 @@ use Rattle.cli_model.proofs.Owed.{NotTen, TakesFirst, TakesNone, FirstThen}
 use Rattle.cli_model.proofs.Giving.{steps_give, refused_so}
 use Rattle.cli_model.proofs.Good.{at_middle}
 use Rattle.cli_model.proofs.Files.{at_other, bytes_differ}
-use Rattle.dram_model.specs.View.{ChipView}
 
 -- no step takes memory, or is refused with its status
 abbrev pub NoneTakes : List Step → Type 0
@@ -95,7 +93,7 @@ take_early but reason c = record {
   line = λ last is. is ∙ ap reason_line c;
 }
 
-open_early : {on : Option ChipUse} (but : Option (List ℕ)) (reason : Reason)
+open_early : {on : ChipUse} (but : Option (List ℕ)) (reason : Reason)
     → reason ≡ NoMemory → IsEarly but [] (Open on) reason
 open_early but reason c = record {
   wants = c;

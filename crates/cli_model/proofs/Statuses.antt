@@ -1,16 +1,12 @@
--- Which statuses a command can answer, and steps that would come after its end.
-use Rattle.std.proofs.Common.{◌≡◌, ℕ, Bool, true, false, cond, List, [], ◌∷◌, ◌++◌, Option}
-use Rattle.std.proofs.Common.{Some, None, refl, sym, subst, inl, inr}
-use Rattle.std.specs.Prelude.{length, nat_lt}
-use Rattle.host_edge.specs.Views.{Files}
-use Rattle.cli_model.specs.World.{World, with_file}
-use Rattle.cli_model.specs.Steps.{Step, Load, Take, Store, Open, Use, UseFor, Put, Print}
-use Rattle.cli_model.specs.Steps.{Refusal, Reason}
-use Rattle.cli_model.specs.Steps.{CannotRead, TooLong, Refused, NoMemory, CannotWrite, PutFailed}
-use Rattle.cli_model.specs.Steps.{ChipFailed, End, Stopped}
+-- Which statuses a command can answer.
+use Rattle.cli_model.proofs.Common.{◌≡◌, ℕ, List, [], ◌∷◌, ◌++◌, Option, Some, None, refl, sym}
+use Rattle.cli_model.proofs.Common.{subst, inl, inr}
+use Rattle.cli_model.specs.World.{World}
+use Rattle.cli_model.specs.Steps.{Step, Load, Take, Store, Open, Use, UseFor, Put, Print, Refusal}
+use Rattle.cli_model.specs.Steps.{Reason, CannotRead, TooLong, Refused, NoMemory, CannotWrite}
+use Rattle.cli_model.specs.Steps.{PutFailed, ChipFailed}
 use Rattle.cli_model.specs.Status.{reason_status}
 use Rattle.cli_model.specs.Ends.{Stop, Ended, All, At, Causes, IsStopped, EndsSo}
-use Rattle.cli_model.specs.Foreseen.{foreseen, load_end, refused_or}
 
 -- the statuses that a step that fails can give have the property
 abbrev pub OfRefusal : (ℕ → Type 0) → Option Refusal → Type 0
@@ -92,38 +88,3 @@ pub all_done : (steps : List Step) (done : ℕ) (ended : Ended) (a b : World) (s
 all_done steps done All a b status h s = refl
 all_done steps done (At stop) a b status h s =
     absurd (stop_so (λ s. s ≡ status → ⊥) steps stop a b status h s refl)
-
--- an end is not undone by steps that would come after it
-
-or_stopped : (refusal : Option Refusal) (one other end : End) → refused_or refusal one ≡ end
-    → (one ≡ end → other ≡ end) → refused_or refusal other ≡ end
-or_stopped None one other end e f = f e
-or_stopped (Some refusal) one other end e f = e
-
-cond_stopped : (b : Bool) (long one other end : End) → cond b long one ≡ end
-    → (one ≡ end → other ≡ end) → cond b long other ≡ end
-cond_stopped true long one other end e f = e
-cond_stopped false long one other end e f = f e
-
-load_stopped : (name : List ℕ) (limit : ℕ) (refusal : Option Refusal) (file : Option (List ℕ))
-    (one other end : End) → load_end name limit refusal file one ≡ end
-    → (one ≡ end → other ≡ end) → load_end name limit refusal file other ≡ end
-load_stopped name limit refusal None one other end e f = e
-load_stopped name limit refusal (Some bytes) one other end e f =
-    cond_stopped (nat_lt limit (length bytes)) (Stopped (TooLong name)) (refused_or refusal one)
-    (refused_or refusal other) end e (λ r. or_stopped refusal one other end r f)
-
-foreseen_more : (xs ys : List Step) (files : Files) (reason : Reason)
-    → foreseen xs files ≡ Stopped reason → foreseen (xs ++ ys) files ≡ Stopped reason
-foreseen_more [] ys files reason e = absurd (cc)
-foreseen_more (Load name limit text refusal ∷ xs) ys files reason e =
-    load_stopped name limit refusal (files name) (foreseen xs files) (foreseen (xs ++ ys) files)
-    (Stopped reason) e (foreseen_more xs ys files reason)
-foreseen_more (Take ∷ xs) ys files reason e = foreseen_more xs ys files reason e
-foreseen_more (Store name bytes ∷ xs) ys files reason e =
-    foreseen_more xs ys (with_file name bytes files) reason e
-foreseen_more (Open on ∷ xs) ys files reason e = foreseen_more xs ys files reason e
-foreseen_more (Use on ∷ xs) ys files reason e = foreseen_more xs ys files reason e
-foreseen_more (UseFor wave ∷ xs) ys files reason e = foreseen_more xs ys files reason e
-foreseen_more (Put bytes ∷ xs) ys files reason e = foreseen_more xs ys files reason e
-foreseen_more (Print on bytes ∷ xs) ys files reason e = foreseen_more xs ys files reason e

@@ -5,12 +5,12 @@ use Rattle.std.specs.List.{list_any}
 use Rattle.host_edge.specs.Views.{Files, Known, IsPrefix}
 use Rattle.faults.specs.Counts.{Rose, RoseBy}
 use Rattle.cli_model.specs.World.{World}
-use Rattle.cli_model.specs.Waves.{IsDoneBy, IsLeftBy, StoppedIn}
+use Rattle.cli_model.specs.Waves.{IsLeftBy, StoppedIn}
 use Rattle.cli_model.specs.Steps.{Step, Load, Take, Store, Open, Use, UseFor, Put, Print, Reason}
 use Rattle.cli_model.specs.Steps.{CannotRead, TooLong, Refused, NoMemory, CannotWrite, PutFailed}
 use Rattle.cli_model.specs.Steps.{ChipFailed}
 use Rattle.cli_model.specs.Steps.{Done, IsLeftUnopened, Stopped, Unopened}
-use Rattle.cli_model.specs.Stands.{files_after, sent_by, CountsOn}
+use Rattle.cli_model.specs.Stands.{files_after, sent_by, all_left, CountsOn, NoneRose}
 use Rattle.cli_model.specs.Status.{reason_status, reason_line}
 use Rattle.cli_model.specs.Foreseen.{foreseen}
 
@@ -27,8 +27,8 @@ pub data Ended : Type 0 where
   All : Ended
   At : Stop → Ended
 
--- Why a step fails: a count rose in this call, the text of its file is refused, or memory was
--- wanting; and where the chip failed, what then stands in it
+-- Why a step fails: a count rose in this call, the text of its file is refused, or it is out of
+-- memory; and where the chip failed, what then stands in it
 abbrev pub Causes : Step → Reason → World → World → Type 0
 Causes (Load name limit text refusal) (CannotRead said) old new =
     (said ≡ name) × Rose (old.files.load_faults name) (new.files.load_faults name)
@@ -49,7 +49,7 @@ Causes (UseFor wave) reason old new = (reason ≡ ChipFailed)
 Causes (Put bytes) reason old new =
     (reason ≡ PutFailed) × Rose old.sink.faults new.sink.faults
 Causes (Print on bytes) reason old new =
-    ((reason ≡ PutFailed) × Rose old.sink.faults new.sink.faults × IsDoneBy on new.chip.banks)
+    ((reason ≡ PutFailed) × Rose old.sink.faults new.sink.faults)
     ⊎ ((reason ≡ ChipFailed) × Rose old.chip.faults new.chip.faults × IsLeftBy on new.chip.banks)
 
 -- what is sent last of a line that is sent while the chip is read: the line, or the part of it that
@@ -119,12 +119,13 @@ abbrev pub done_steps : List Step → Ended → List Step
 done_steps steps All = steps
 done_steps steps (At stop) = stop.before
 
--- all of its steps were done
+-- all of its steps were done, and no call of the folder, the sink or the chip failed
 pub record IsAllDone (steps : List Step) (done : ℕ) (old new : World) (status : ℕ) : Type 0 where
   pub answers : status ≡ done
   pub sent : Known (λ before after. after ≡ before ++ sent_by steps) old.sink.sent new.sink.sent
   pub files : Known (λ before after. after ≡ files_after steps before) old.files.holds
       new.files.holds
+  pub unfailed : NoneRose old new
 
 -- it stopped there
 pub record IsStopped (steps : List Step) (stop : Stop) (old new : World) (status : ℕ) : Type 0 where
@@ -140,7 +141,7 @@ abbrev pub EndsSo : List Step → ℕ → Ended → World → World → ℕ → 
 EndsSo steps done All old new status = IsAllDone steps done old new status
 EndsSo steps done (At stop) old new status = IsStopped steps stop old new status
 
--- a fault that no file foretells: one that a count tells, or want of memory
+-- a fault that no file foretells: one that a count tells, or out of memory
 abbrev pub IsFault : Reason → Type 0
 IsFault (CannotRead name) = Unit {0}
 IsFault (TooLong name) = ⊥
@@ -156,7 +157,7 @@ IsForetold steps All files = foreseen steps files ≡ Done
 IsForetold steps (At stop) files = (foreseen stop.before files ≡ Done)
     × ((foreseen steps files ≡ Stopped stop.reason) ⊎ IsFault stop.reason)
 
--- it stopped for want of memory
+-- it stopped out of memory
 abbrev pub Wants : Ended → Type 0
 Wants All = ⊥
 Wants (At stop) = stop.reason ≡ NoMemory
@@ -173,15 +174,17 @@ is_chip_fault All = false
 is_chip_fault (At stop) = may_fault stop.failed stop.reason
 
 -- A command of these steps ends with this status, and with `done` where all of them were done. No
--- count of faults falls, and the chip's rises in the step alone where it stopped. The chip is as it
--- was where no step on it was begun, and where none was done, a command out of memory leaves it as
--- it was or not begun
+-- count of faults falls, and the chip's rises in the step alone where it stopped. Where it did not,
+-- the banks hold what the steps that were begun leave. The chip is as it was where no step on it
+-- was begun, and where none was done, a command out of memory leaves it as it was or not begun
 pub record Ends (steps : List Step) (done : ℕ) (old new : World) (status : ℕ) : Type 0 where
   pub ended : Ended
   pub so : EndsSo steps done ended old new status
   pub foretold : IfSome old.files.holds (IsForetold steps ended)
   pub counts : CountsOn old new
   pub faults : is_chip_fault ended ≡ false → new.chip.faults ≡ old.chip.faults
+  pub banks : is_chip_fault ended ≡ false
+      → new.chip.banks ≡ all_left (begun_steps steps ended) old.chip.banks
   pub chip : list_any is_on_chip (begun_steps steps ended) ≡ false → new.chip ≡ old.chip
   pub unopened : list_any is_on_chip (done_steps steps ended) ≡ false → Wants ended
       → Unopened old.chip new.chip

@@ -19,8 +19,8 @@ pub record NothingFailed (old new : World) : Type 0 where
   pub puts : Rose old.sink.faults new.sink.faults → ⊥
   pub chip : Rose old.chip.faults new.chip.faults → ⊥
 
--- Where memory was wanting, its line was sent and nothing before it; all files but this one are as
--- at entry; and the chip is, or has not begun
+-- A command is out of memory: its line was sent and nothing before it; all files but this one are
+-- as at entry; and the chip is, or has not begun
 pub record IsSpared (but : Option (List ℕ)) (old new : World) : Type 0 where
   pub sent : Sends [] (codes "no memory\n") old new
   pub files : Known (λ before after. (name : List ℕ) → but ≢ Some name → after name ≡ before name)

@@ -1,5 +1,5 @@
 -- What follows of every command, whatever its steps are.
-use Rattle.std.specs.Prelude.{◌≡◌, ◌≢◌, ◌⊎◌, ℕ, List, ◌++◌, true, Some}
+use Rattle.std.specs.Prelude.{◌≡◌, ◌≢◌, ◌⊎◌, ℕ, List, ◌++◌, true}
 use Rattle.dram_model.specs.Chip.{Banks, Event, after}
 use Rattle.cli_model.specs.World.{World}
 use Rattle.cli_model.specs.Waves.{ChipUse}
@@ -21,5 +21,5 @@ HoldsPart on left bank = (done : List Event) × (rest : List Event)
 -- no two banks beyond the step's own events
 abbrev pub OneBankIsLost : Type 0
 OneBankIsLost = (on : ChipUse) (old new : World) (a b : ℕ) → a ≢ b → new.chip.begun ≡ true
-    → Causes (Open (Some on)) ChipFailed old new ⊎ Causes (Use (Some on)) ChipFailed old new
+    → Causes (Open on) ChipFailed old new ⊎ Causes (Use on) ChipFailed old new
     → HoldsPart on new.chip.banks a ⊎ HoldsPart on new.chip.banks b

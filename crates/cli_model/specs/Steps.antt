@@ -1,12 +1,13 @@
 -- The steps of a command, and how it goes through them.
 use Rattle.std.specs.Prelude.{◌≡◌, ◌⊎◌, ℕ, ◌+◌, ◌≤◌, List, [], ◌∷◌, ◌++◌, length, Option, Some}
-use Rattle.std.specs.Prelude.{None, Result, Ok, Err}
-use Rattle.host_edge.specs.Views.{Known, NoCountFalls, HasBytes, IsLonger, KeepsOthers}
+use Rattle.std.specs.Prelude.{None, Result, Ok, Err, Bool, if◌then◌else◌}
+use Rattle.host_edge.specs.Views.{Known, NoCountFalls, Unfailed, HasBytes, IsLonger, KeepsOthers}
 use Rattle.faults.specs.Counts.{Rose, RoseBy}
 use Rattle.host_edge.specs.Views.{AppendsPart}
+use Rattle.dram_model.specs.Chip.{Banks, after}
 use Rattle.dram_model.specs.View.{ChipView, NotBegun}
 use Rattle.cli_model.specs.World.{World, with_file}
-use Rattle.cli_model.specs.Waves.{ChipUse, ChipWave, IsDoneBy, IsLeftBy, StoppedIn}
+use Rattle.cli_model.specs.Waves.{ChipUse, ChipWave, banks_after, IsLeftBy, StoppedIn}
 
 -- why a text is not accepted: the status, and the line that tells it
 pub record Refusal : Type 0 where
@@ -23,15 +24,19 @@ pub data Step : Type 0 where
   -- the file of this name is set to these bytes
   Store : (name bytes : List ℕ) → Step
   -- memory is taken, the chip begins, and it is used so
-  Open : Option ChipUse → Step
+  Open : ChipUse → Step
   -- the chip is used so
-  Use : Option ChipUse → Step
+  Use : ChipUse → Step
   -- it is used for this wave
   UseFor : ChipWave → Step
   -- these bytes are sent
   Put : List ℕ → Step
   -- these bytes are sent while the chip is read, which has these banks
-  Print : Option ChipUse → List ℕ → Step
+  Print : ChipUse → List ℕ → Step
+
+-- a line is sent while the chip is read, or after the chip is used
+abbrev pub line_steps : ChipUse → (prints : Bool) → List ℕ → List Step
+line_steps on prints bytes = if prints then Print on bytes ∷ [] else Use on ∷ Put bytes ∷ []
 
 -- a file is loaded; what its text is read as goes on, and a text that is refused ends the command
 abbrev pub loading : {A : Type 0} → (name : List ℕ) (limit : ℕ) (text : List ℕ) → Result A Refusal
@@ -61,25 +66,28 @@ pub record ReadsOnly (old new : World) : Type 0 where
   pub sink : new.sink ≡ old.sink
   pub chip : new.chip ≡ old.chip
 
--- the file was loaded, and has this text
+-- the file was loaded, and has this text; no call failed
 pub record Loaded (name : List ℕ) (limit : ℕ) (text : List ℕ) (old new : World) : Type 0 where
   pub reads : ReadsOnly old new
   pub bytes : HasBytes old.files name text
   pub within : length text ≤ limit
+  pub unfailed : Unfailed old.files new.files
 
--- the file was set to these bytes, and all else is as it was
+-- the file was set to these bytes, no call failed, and all else is as it was
 pub record Stored (name bytes : List ℕ) (old new : World) : Type 0 where
   pub files : Known (λ before after. after ≡ with_file name bytes before) old.files.holds
       new.files.holds
   pub counts : NoCountFalls old.files new.files
+  pub unfailed : Unfailed old.files new.files
   pub sink : new.sink ≡ old.sink
   pub chip : new.chip ≡ old.chip
 
--- the chip was used, no call of it failed, and all else is as it was
-pub record Used (old new : World) : Type 0 where
+-- the chip was used, which left these banks; no call of it failed, and all else is as it was
+pub record Used (banks : Banks) (old new : World) : Type 0 where
   pub files : new.files ≡ old.files
   pub sink : new.sink ≡ old.sink
   pub chip : new.chip.faults ≡ old.chip.faults
+  pub left : new.chip.banks ≡ banks
 
 -- the opening or another use of the chip failed: its count of faults does not fall, and all else is
 -- as it was
@@ -95,13 +103,14 @@ pub record Sent (R : List ℕ → List ℕ → Type 0) (old new : World) : Type 
   pub faults : old.sink.faults ≤ new.sink.faults
   pub chip : new.chip ≡ old.chip
 
--- the chip was read and bytes were sent, related so to what was sent before; no call of the chip
--- failed, and all else is as it was
-pub record Printed (R : List ℕ → List ℕ → Type 0) (old new : World) : Type 0 where
+-- the chip was read, which left these banks, and bytes were sent, related so to what was sent
+-- before; no call of the chip failed, and all else is as it was
+pub record Printed (R : List ℕ → List ℕ → Type 0) (banks : Banks) (old new : World) : Type 0 where
   pub files : new.files ≡ old.files
   pub sent : Known R old.sink.sent new.sink.sent
   pub faults : old.sink.faults ≤ new.sink.faults
   pub chip : new.chip.faults ≡ old.chip.faults
+  pub left : new.chip.banks ≡ banks
 
 -- the chip failed while these bytes were sent: a part of them was, and all else is as it was
 pub record PrintFailed (bytes : List ℕ) (old new : World) : Type 0 where
@@ -113,13 +122,16 @@ pub record PrintFailed (bytes : List ℕ) (old new : World) : Type 0 where
 -- the step was done
 abbrev pub StepDone : Step → World → World → Type 0
 StepDone (Load name limit text refusal) old new = (refusal ≡ None) × Loaded name limit text old new
-StepDone Take old new = ReadsOnly old new
+StepDone Take old new = new ≡ old
 StepDone (Store name bytes) old new = Stored name bytes old new
-StepDone (Open on) old new = Used old new
-StepDone (Use on) old new = Used old new
-StepDone (UseFor wave) old new = Used old new
+StepDone (Open on) old new = Used (banks_after on) old new
+StepDone (Use on) old new = Used (banks_after on) old new
+StepDone (UseFor wave) old new = Used (after wave.events wave.banks) old new
 StepDone (Put bytes) old new = Sent (λ before after. after ≡ before ++ bytes) old new
-StepDone (Print on bytes) old new = Printed (λ before after. after ≡ before ++ bytes) old new
+    × (new.sink.faults ≡ old.sink.faults)
+StepDone (Print on bytes) old new =
+    Printed (λ before after. after ≡ before ++ bytes) (banks_after on) old new
+    × (new.sink.faults ≡ old.sink.faults)
 
 -- the load of a file failed for this reason
 abbrev pub LoadFails : List ℕ → ℕ → List ℕ → Option Refusal → Reason → World → World → Type 0
@@ -145,7 +157,7 @@ abbrev pub Unopened : ChipView → ChipView → Type 0
 Unopened old new = (new ≡ old) ⊎ NotBegun new
 
 -- the chip failed at its opening: it has not begun, or it is left as by such a use
-abbrev pub IsLeftUnopened : Option ChipUse → ChipView → Type 0
+abbrev pub IsLeftUnopened : ChipUse → ChipView → Type 0
 IsLeftUnopened on chip = NotBegun chip ⊎ IsLeftBy on chip.banks
 
 -- the step failed for this reason
@@ -165,8 +177,8 @@ Fails (UseFor wave) reason old new = (reason ≡ ChipFailed) × UseFailed old ne
 Fails (Put bytes) reason old new = (reason ≡ PutFailed) × Sent (AppendsPart bytes) old new
     × Rose old.sink.faults new.sink.faults
 Fails (Print on bytes) reason old new =
-    ((reason ≡ PutFailed) × Printed (AppendsPart bytes) old new
-    × Rose old.sink.faults new.sink.faults × IsDoneBy on new.chip.banks)
+    ((reason ≡ PutFailed) × Printed (AppendsPart bytes) (banks_after on) old new
+    × Rose old.sink.faults new.sink.faults)
     ⊎ ((reason ≡ ChipFailed) × PrintFailed bytes old new
     × Rose old.chip.faults new.chip.faults × IsLeftBy on new.chip.banks)
 

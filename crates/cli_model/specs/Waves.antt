@@ -1,10 +1,10 @@
 -- Waves and other uses of the banks of a chip, and what stands where the chip fails in one.
-use Rattle.std.specs.Prelude.{◌≡◌, ◌≢◌, ℕ, ◌<◌, List, ◌++◌, map, take, slice_get, Option, Some}
-use Rattle.std.specs.Prelude.{IfSome}
+use Rattle.std.specs.Prelude.{◌≡◌, ◌≢◌, ℕ, ◌<◌, List, map, take, slice_get, Some}
 use Rattle.dram_model.specs.declared.address.Command.{Command}
 use Rattle.dram_model.specs.Column.{run}
 use Rattle.dram_model.specs.Chip.{Banks, Event, after, SameBut}
 use Rattle.dram_model.specs.Chip.Event.{Row}
+use Rattle.transpose_unit.specs.Stopped.{StoppedWithin}
 
 -- a wave: how many banks the chip has and what they hold before it, its commands in order, and
 -- those of each bank
@@ -25,30 +25,25 @@ pub record StoppedIn (wave : ChipWave) (left : Banks) : Type 0 where
   pub alone : (b : ℕ) → b ≢ bank → b < wave.count
       → (k : ℕ) × (left b ≡ map (run (take k (wave.queue b))) (wave.banks b))
 
--- a use of a chip by other calls: what its banks hold before it, and its events in order. A row
--- that is read is no event
+-- a use of a chip by other calls: what its banks hold before it, its events in order, and in how
+-- many banks rows are read after them
 pub record ChipUse : Type 0 where
   pub banks : Banks
   pub events : List Event
+  pub reads : ℕ
 
 -- these events on these banks
-abbrev pub doing : Banks → List Event → Option ChipUse
-doing banks events = Some (record { banks = banks; events = events })
+abbrev pub doing : Banks → List Event → ChipUse
+doing banks events = record { banks = banks; events = events; reads = 0 }
 
--- The chip failed in such a use: every bank but one stands where a first part of the events leaves
--- it
-pub record StoppedWithin (on : ChipUse) (left : Banks) : Type 0 where
-  pub done : List Event
-  pub rest : List Event
-  pub all : done ++ rest ≡ on.events
-  pub bank : ℕ
-  pub others : SameBut bank (after done on.banks) left
+-- and rows of the first so many banks are read after them
+abbrev pub and_reading : ℕ → ChipUse → ChipUse
+and_reading reads on = record on { reads = reads }
 
--- and where it is not known which use that was, nothing is said
-abbrev pub IsLeftBy : Option ChipUse → Banks → Type 0
-IsLeftBy known left = IfSome known (λ on. StoppedWithin on left)
+-- the banks after it
+abbrev pub banks_after : ChipUse → Banks
+banks_after on = after on.events on.banks
 
--- the use was done: the banks stand where its events leave them, and where it is not known which
--- use that was, nothing is said
-abbrev pub IsDoneBy : Option ChipUse → Banks → Type 0
-IsDoneBy known left = IfSome known (λ on. left ≡ after on.events on.banks)
+-- the chip failed in it
+abbrev pub IsLeftBy : ChipUse → Banks → Type 0
+IsLeftBy on left = StoppedWithin on.reads on.events on.banks left

@@ -3,10 +3,11 @@ use Rattle.guard_job.proofs.Common.{◌≡◌, ℕ, ◌+◌, ◌<◌, Bool, true
 use Rattle.guard_job.proofs.Common.{length, map, refl, sym, ◌∙◌, ap, subst, Option, Some, Counters}
 use Rattle.guard_job.proofs.Common.{Geometry, Banks, Event, Grew, after, ChipView, Grew-more, Named}
 use Rattle.guard_job.proofs.Common.{Instruction, Routines, is_refused, Machine, geometry_of}
-use Rattle.guard_job.proofs.Common.{operations_by, table_in, turn_in, is_print, Turn, IsDoneBy}
-use Rattle.guard_job.proofs.Common.{doing, Flip, all_flipped, vote_count, vote_events}
-use Rattle.guard_job.proofs.Common.{guarded_events, guarded_reply, guarded_rows, plain_script}
-use Rattle.std.proofs.Common.{append_assoc, None}
+use Rattle.guard_job.proofs.Common.{operations_by, table_in, turn_in, is_print, Turn, Flip}
+use Rattle.guard_job.proofs.Common.{all_flipped, vote_count, vote_events, guarded_events}
+use Rattle.guard_job.proofs.Common.{guarded_reply, guarded_rows, plain_script, None, voted}
+use Rattle.guard_job.proofs.Common.{vote_is_events, events_by}
+use Rattle.std.proofs.Common.{append_assoc}
 use mir.Val.{bool_byte}
 use Rattle.dram_model.specs.View.{Did, with_reads}
 use Rattle.bbop_isa.specs.declared.instr.Place.{Place}
@@ -24,13 +25,12 @@ use Rattle.sim_machine.specs.Machine.{IsLaidOut}
 use Rattle.sim_machine.specs.Steps.{DidAndRead}
 use Rattle.sim_machine.proofs.Stepping.{if_same}
 use Rattle.object_steps.specs.Lines.{DidReadAtMost}
-use Rattle.guard_model.specs.Votes.{voted}
 use Rattle.guard_model.specs.Guarded.{guarded_reads, place_on}
 use Rattle.guard_model.specs.Triples.{x_letter}
 use Rattle.guard_model.proofs.Runs.{script_by}
-use Rattle.guard_model.proofs.Commands.{vote_is_counted, vote_is_events}
+use Rattle.guard_model.proofs.Commands.{vote_is_counted}
 use Rattle.guard_model.proofs.Pieces.{step_is_counted, step_is_events}
-use Rattle.tmr_guard.specs.Steps.{events_by, reads_by, reply_by, table_by, turn_by}
+use Rattle.tmr_guard.specs.Steps.{reads_by, reply_by, table_by, turn_by}
 use Rattle.guard_job.specs.Events.{flip_events}
 use Rattle.guard_job.specs.Parts.{InstrDone, Mended, after_flips, mended_tally}
 use Rattle.guard_job.proofs.Tallies.{count_one}
@@ -87,15 +87,32 @@ print_is_quiet g o turn table (Free name) is = absurd (cc)
 print_is_quiet g o turn table (Order order) is = absurd (cc)
 
 -- what stands where the chip was read for a print
-pub read_by : (g : Geometry) (o : Routines) (turn : Turn) (table : List Named)
+read_by : (g : Geometry) (o : Routines) (turn : Turn) (table : List Named)
     (instr : Instruction) (n : ℕ) (now : Banks) (a b : ChipView) → is_print instr ≡ true
     → a.banks ≡ now → DidReadAtMost n a b
-    → (b.faults ≡ a.faults) × IsDoneBy (doing now (guarded_events g o turn table instr)) b.banks
+    → (b.faults ≡ a.faults) × (b.banks ≡ after (guarded_events g o turn table instr) now)
 read_by g o turn table instr n now a b is e read = (
   read.did.faults,
   read.did.banks ∙ e
       ∙ ap (λ (es : List Event). after es now) (sym (print_is_quiet g o turn table instr is)),
 )
+
+-- what stands where its line was not put
+told_so : (m : Machine) (instr : Instruction) (now : Banks) (a b : ChipView) (prints : Bool)
+    → is_print instr ≡ prints → a.banks ≡ now
+    → (is_print instr ≡ false → DidAndRead (events_by m instr) (reads_by m instr) a b)
+    → (is_print instr ≡ true → DidReadAtMost (reads_by m instr) a b)
+    → (b.faults ≡ a.faults) × (b.banks ≡ after (events_by m instr) now)
+told_so m instr now a b false is e did read =
+    let d = did is in (d.faults, d.banks ∙ ap (after (events_by m instr)) e)
+told_so m instr now a b true is e did read = read_by (geometry_of m) (operations_by m) (turn_in m)
+    (table_in m) instr (reads_by m instr) now a b is e (read is)
+
+pub untold : (m : Machine) (instr : Instruction) (now : Banks) (a b : ChipView) → a.banks ≡ now
+    → (is_print instr ≡ false → DidAndRead (events_by m instr) (reads_by m instr) a b)
+    → (is_print instr ≡ true → DidReadAtMost (reads_by m instr) a b)
+    → (b.faults ≡ a.faults) × (b.banks ≡ after (events_by m instr) now)
+untold m instr now a b e did read = told_so m instr now a b (is_print instr) refl e did read
 
 -- a test as a number
 as_number : (b : Bool) → bool_byte b ≡ cond b 1 0

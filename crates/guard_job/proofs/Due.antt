@@ -1,10 +1,10 @@
 -- The flips that are due, and those after them.
 use Rattle.guard_job.proofs.Common.{◌≡◌, ℕ, ◌+◌, ◌<◌, ◌≤◌, true, false, List, [], ◌∷◌, drop, length}
-use Rattle.guard_job.proofs.Common.{get_or, refl, sym, ◌∙◌, ap, subst, arith, inl, inr, Option}
-use Rattle.guard_job.proofs.Common.{Some, AllByRecursion, drop_more, Geometry, Event, Grew, Write}
-use Rattle.guard_job.proofs.Common.{Banks, row_in, Grew-more, ChipView, Flip, due, flipped}
+use Rattle.guard_job.proofs.Common.{get_or, refl, sym, ◌∙◌, ap, subst, arith, inl, inr}
+use Rattle.guard_job.proofs.Common.{AllByRecursion, drop_more, Geometry, Event, Grew, Write, Banks}
+use Rattle.guard_job.proofs.Common.{row_in, Grew-more, ChipView, Flip, due, flipped}
 use Rattle.guard_job.proofs.Common.{with_bit_inverted, AreSorted, IsFlip}
-use Rattle.std.proofs.Common.{◌≢◌, eqb, None, append-nil}
+use Rattle.std.proofs.Common.{◌≢◌, eqb}
 use Rattle.std.proofs.lemmas.Bool.Decides.{eqb_tells, nat_tests}
 use Rattle.dram_model.proofs.EventLaws.{Grew-none}
 use Rattle.guard_job.specs.Events.{flip_events}

@@ -1,10 +1,10 @@
 -- The end of a guarded script, and its steps one by one.
 use Rattle.guard_job.proofs.Common.{◌≡◌, ℕ, ◌+◌, ◌<◌, ◌≤◌, List, [], ◌∷◌, length, map, drop, get_or}
-use Rattle.guard_job.proofs.Common.{sym, ◌∙◌, ap, subst, arith, Err, None, AllByRecursion}
-use Rattle.guard_job.proofs.Common.{drop_more, Geometry, Counters, Banks, ChipView, Named, Instr}
-use Rattle.guard_job.proofs.Common.{Instruction, view_of, Turn, Routines, StepFault, RisesAtMost}
-use Rattle.guard_job.proofs.Common.{World, Goes, Flip, due, AreSorted, IsFlip, guarded_rows}
-use Rattle.guard_job.proofs.Common.{guarded_table, guarded_tally, guarded_turn, mended}
+use Rattle.guard_job.proofs.Common.{sym, ◌∙◌, ap, subst, arith, Err, AllByRecursion, drop_more}
+use Rattle.guard_job.proofs.Common.{Geometry, Counters, Banks, ChipView, Named, Instr, Instruction}
+use Rattle.guard_job.proofs.Common.{view_of, Turn, Routines, StepFault, RisesAtMost, World, Goes}
+use Rattle.guard_job.proofs.Common.{Flip, due, AreSorted, IsFlip, guarded_rows, guarded_table}
+use Rattle.guard_job.proofs.Common.{guarded_tally, guarded_turn, mended}
 use Rattle.std.proofs.lemmas.List.{drop-drop}
 use Rattle.machine_model.proofs.Parts.{all_parted}
 use Rattle.guard_job.specs.Steps.{end_by, guarded_steps, instr_steps}

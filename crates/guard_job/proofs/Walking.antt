@@ -1,7 +1,7 @@
 -- One instruction of a guarded script was done, and the others are left.
 use Rattle.guard_job.proofs.Common.{◌≡◌, ℕ, ◌+◌, List, ◌∷◌, length, sym, ◌∙◌, ap, subst, arith}
-use Rattle.guard_job.proofs.Common.{None, count_by, FolderView, SinkView, Geometry, Banks, Event}
-use Rattle.guard_job.proofs.Common.{Grew, ChipView, Grew-more, Named, Instruction, Turn, Routines}
+use Rattle.guard_job.proofs.Common.{count_by, FolderView, SinkView, Geometry, Banks, Event, Grew}
+use Rattle.guard_job.proofs.Common.{ChipView, Grew-more, Named, Instruction, Turn, Routines}
 use Rattle.guard_job.proofs.Common.{is_refused, World, world, Step, End, Done, Goes, Flip, due}
 use Rattle.guard_job.proofs.Common.{guarded_reply, guarded_replies, guarded_rows}
 use Rattle.guard_job.proofs.Common.{guarded_rows_at_end, guarded_table, guarded_table_at_end}

@@ -1,6 +1,5 @@
 -- A guarded script as the steps of a command.
-use Rattle.std.specs.Prelude.{ℕ, ◌+◌, Bool, if◌then◌else◌, List, [], ◌∷◌, ◌++◌}
-use Rattle.std.specs.Prelude.{Option, Result, Ok, Err}
+use Rattle.std.specs.Prelude.{ℕ, ◌+◌, List, [], ◌∷◌, ◌++◌, Result, Ok, Err}
 use Rattle.dram_model.specs.declared.geometry.Geometry.{Geometry}
 use Rattle.dram_model.specs.Chip.{Banks}
 use Rattle.object_alloc.specs.Listed.{Named}
@@ -8,35 +7,33 @@ use Rattle.bbop_isa.specs.Forms.{Instruction}
 use Rattle.wave_model.specs.Schedule.{Turn}
 use Rattle.machine_model.specs.Routines.{Routines}
 use Rattle.machine_model.specs.Report.{line}
+use Rattle.machine_model.specs.Script.{banks_printed}
 use Rattle.object_steps.specs.declared.fault.StepFault.{StepFault}
 use Rattle.object_steps.specs.declared.fault.StepFault.TheVariants.{ChipFault, WriteFault}
 use Rattle.sim_machine.specs.Machine.{is_print}
-use Rattle.cli_model.specs.Waves.{ChipUse, doing}
-use Rattle.cli_model.specs.Steps.{Step, Use, Put, Print, End, Done, Stopped, ChipFailed, PutFailed}
+use Rattle.cli_model.specs.Waves.{and_reading, doing}
+use Rattle.cli_model.specs.Steps.{Step, Use, line_steps, End, Done, Stopped, ChipFailed, PutFailed}
 use Rattle.guard_model.specs.declared.Flip.{Flip}
 use Rattle.guard_model.specs.Flips.{all_flipped, due}
 use Rattle.guard_model.specs.Votes.{voted}
 use Rattle.guard_model.specs.Guarded.{guarded_events, guarded_rows, guarded_said_by, guarded_table}
-use Rattle.guard_model.specs.Guarded.{guarded_turn, mended}
+use Rattle.guard_model.specs.Guarded.{guarded_turn, mended, on_copy}
+use Rattle.guard_model.specs.Triples.{x_letter}
 use Rattle.guard_job.specs.Events.{mend_events}
-
--- the line of a print is sent while the chip is read; each other instruction uses the chip so, and
--- then its line is sent
-abbrev pub line_steps : Option ChipUse → Bool → List ℕ → List Step
-line_steps on prints bytes = if prints then Print on bytes ∷ [] else Use on ∷ Put bytes ∷ []
 
 -- the chip is used for these flips, and for the votes after them
 abbrev pub mend_step : Geometry → List Flip → List Named → Banks → Step
 mend_step g now table banks = Use (doing banks (mend_events g now table banks))
 
 -- the steps of instruction k: these flips and the votes, its own events under the order in force,
--- and its line
+-- or the reading of a print's x copy, and its line
 abbrev pub instr_steps : Geometry → Routines → List Flip → ℕ → Turn → List Named → Banks
     → Instruction → List Step
 instr_steps g operations now k turn table banks instr =
     let left = voted g table (all_flipped now banks) in
     mend_step g now table banks
-    ∷ line_steps (doing left (guarded_events g operations turn table instr)) (is_print instr)
+    ∷ line_steps (and_reading (banks_printed g table (on_copy x_letter instr))
+    (doing left (guarded_events g operations turn table instr))) (is_print instr)
     (line k (guarded_said_by g operations table left instr))
 
 -- the steps of a script, of which the first instruction has number k; after the last the flips and

@@ -42,7 +42,7 @@ pub(crate) fn flip_due<D: Dram>(
         (flip_events (due k flips.now) (D.view chip.old).banks)) }
     ensures faults { OnOk result ((D.view chip.new).faults ≡ (D.view chip.old).faults) }
     ensures failed { OnErr result (Rose (D.view chip.old).faults (D.view chip.new).faults) }
-    ensures left { OnErr result (StoppedWithin (flip_events (due k flips.now)
+    ensures left { OnErr result (StoppedWithin 0 (flip_events (due k flips.now)
         (D.view chip.old).banks) (D.view chip.old).banks (D.view chip.new).banks) }
 {
     let mut done = 0;

@@ -84,7 +84,7 @@ fn mend<D: Dram>(
     ensures done { OnOk result (IsMended (geometry_of (machine_in guard.old)) (due k flips.now)
         (table_in (machine_in guard.old)) (D.view chip.old) (D.view chip.new)) }
     ensures failed { OnErr result (Rose (D.view chip.old).faults (D.view chip.new).faults) }
-    ensures left { OnErr result (StoppedWithin (mend_events (geometry_of (machine_in guard.old))
+    ensures left { OnErr result (StoppedWithin 0 (mend_events (geometry_of (machine_in guard.old))
         (due k flips.now) (table_in (machine_in guard.old)) (D.view chip.old).banks)
         (D.view chip.old).banks (D.view chip.new).banks) }
 {

@@ -41,4 +41,5 @@ pub use Rattle.std.specs.Prelude.{take}
 pub use Rattle.std.specs.Str.{bytes_eq}
 pub use Rattle.text_lex.specs.Lexical.{items_of}
 pub use Rattle.text_lex.specs.Spelled.{fits_name}
+pub use Rattle.uprog_code.specs.declared.walker.Counts.{Counts}
 pub use mathlib.Core.Path.{fun_ext}

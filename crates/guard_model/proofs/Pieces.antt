@@ -1,7 +1,6 @@
 -- The pieces of a guarded instruction, one plain instruction each.
 use Rattle.guard_model.proofs.Common.{◌≡◌, Bool, true, false, cond, List, [], ◌∷◌, map, refl, ◌∙◌}
-use Rattle.guard_model.proofs.Common.{ap, arith, AllByRecursion, Instruction}
-use Rattle.std.specs.Prelude.{flat_map}
+use Rattle.guard_model.proofs.Common.{ap, arith, AllByRecursion, Instruction, flat_map}
 use Rattle.machine_model.specs.Script.{is_bbop, banks_at_end, counters_at_end}
 use Rattle.machine_model.specs.Pieces.{Wave, Alone, piece_of, instrs_in, IsPiece}
 use Rattle.machine_model.proofs.Pieces.{pieces_steps, pieces_counted}

@@ -3,10 +3,9 @@ use Rattle.guard_model.proofs.Common.{◌≡◌, ℕ, suc, Bool, true, not, eqb,
 use Rattle.guard_model.proofs.Common.{length, map, Option, Some, None, refl, ◌∙◌, ap, arith, take}
 use Rattle.guard_model.proofs.Common.{zero, Geometry, Object, Named, limit_of, Place, Load, Fill}
 use Rattle.guard_model.proofs.Common.{Free, Why, Routines, when, rows_of, goes_past, is_absent}
-use Rattle.guard_model.proofs.Common.{refusal, dsts_of, srcs_of}
+use Rattle.guard_model.proofs.Common.{refusal, dsts_of, srcs_of, drop}
 use Rattle.std.proofs.Common.{◌^◌}
 use Rattle.std.specs.List.{zip}
-use Rattle.std.specs.Prelude.{drop}
 use Rattle.op_text.specs.declared.tree.Kind.{Kind}
 use Rattle.uprog_code.specs.Shape.{width, results}
 use Rattle.machine_model.specs.Routines.{Routine}

@@ -3,9 +3,7 @@ use Rattle.guard_model.proofs.Common.{◌≡◌, ℕ, Bool, true, false, cond, L
 use Rattle.guard_model.proofs.Common.{Some, None, refl, sym, ◌∙◌, ap, subst, Geometry, Named}
 use Rattle.guard_model.proofs.Common.{Instruction, Why, Routines, refusal, Held, table_of, worded}
 use Rattle.guard_model.proofs.Common.{tabled, table_after, if_done, reply_by, counts_for, replies}
-use Rattle.guard_model.proofs.Common.{words_at_end, is_refused}
-use Rattle.std.specs.Prelude.{flat_map}
-use Rattle.uprog_code.specs.declared.walker.Counts.{Counts}
+use Rattle.guard_model.proofs.Common.{words_at_end, is_refused, flat_map, Counts}
 use Rattle.machine_model.specs.declared.Reply.{Reply}
 use Rattle.machine_model.specs.declared.Reply.TheVariants.{Refused}
 use Rattle.machine_model.specs.Steps.{words_after}

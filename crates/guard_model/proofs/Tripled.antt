@@ -2,8 +2,7 @@
 use Rattle.guard_model.proofs.Common.{◌≡◌, ℕ, zero, suc, ◌+◌, ◌≤◌, Bool, true, false, not, cond}
 use Rattle.guard_model.proofs.Common.{List, [], ◌∷◌, ◌++◌, length, map, drop, Option, Some, None}
 use Rattle.guard_model.proofs.Common.{refl, sym, ◌∙◌, ap, subst, arith, fits_name, Named}
-use Rattle.guard_model.proofs.Common.{bytes_same}
-use Rattle.std.proofs.Common.{take}
+use Rattle.guard_model.proofs.Common.{bytes_same, take}
 use Rattle.std.proofs.lemmas.Bool.{eq-eqb}
 use Rattle.guard_model.specs.Triples.{x_letter, y_letter, z_letter, is_first_name, is_first}
 use Rattle.guard_model.specs.Triples.{is_copy, stranger_from, Outline, outline, lettered, in_copies}

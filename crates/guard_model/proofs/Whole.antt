@@ -7,9 +7,10 @@ use Rattle.guard_model.proofs.Common.{Geometry, Banks, below, column_count, numb
 use Rattle.guard_model.proofs.Common.{limit_of, Place, Instruction, Init, Bbop, Load, Fill, Print}
 use Rattle.guard_model.proofs.Common.{Free, Order, Why, columns, segments, seen, Routines, refusal}
 use Rattle.guard_model.proofs.Common.{rows_of, goes_past, is_absent, Held, table_of, numbers_at}
-use Rattle.guard_model.proofs.Common.{table_after, worded, if_done, counts_for, reply_by}
-use Rattle.guard_model.proofs.Common.{is_refused, bytes_same, nat_tests}
-use Rattle.std.specs.Prelude.{flat_map}
+use Rattle.guard_model.proofs.Common.{table_after, worded, if_done, reply_by, is_refused}
+use Rattle.guard_model.proofs.Common.{bytes_same, nat_tests, flat_map, Counts}
+use Rattle.std.proofs.lemmas.Grind.{div_ceil_times}
+use Rattle.std.proofs.lemmas.List.{length-take-le}
 use Rattle.std.proofs.lemmas.List.Elements.{All-from_recursion, recursion_from_All}
 use Rattle.dram_model.specs.Elements.{segments_of}
 use Rattle.object_alloc.specs.Listed.{IsTable}
@@ -22,6 +23,7 @@ use Rattle.machine_model.proofs.Texts.{does_all}
 use Rattle.dram_model.specs.Geometry.{is_geometry}
 use Rattle.machine_model.proofs.Bbops.{operand_columns}
 use Rattle.machine_model.proofs.Facts.{not_false, operand_is}
+use Rattle.machine_model.proofs.Steps.{operand_within}
 use Rattle.guard_model.specs.declared.Flip.{Flip}
 use Rattle.guard_model.specs.Flips.{all_flipped, due}
 use Rattle.guard_model.specs.Triples.{x_letter, y_letter, z_letter, first_copies, first_stranger}
@@ -42,7 +44,8 @@ use Rattle.guard_model.proofs.Flips.{flips_length}
 use Rattle.guard_model.proofs.Likes.{AllLike, AreLike, Like, count_like, elsewhere, place_like}
 use Rattle.guard_model.proofs.Likes.{take_at, weaken, worded_like}
 use Rattle.guard_model.proofs.Mends.{EqualIn, IsLong, IsWithin, Kept, all_equal, all_kept}
-use Rattle.guard_model.proofs.Mends.{banks_become_most, held, named_case, voted_length}
+use Rattle.guard_model.proofs.Mends.{banks_become_most, columns_length, held, named_case}
+use Rattle.guard_model.proofs.Mends.{voted_length}
 use Rattle.guard_model.proofs.Names.{copies_like as like_copies, copy_numbers, is_x}
 use Rattle.guard_model.proofs.Runs.{guarded_words, none_yet, script_by, table_steps}
 use Rattle.guard_model.proofs.Changes.{step}
@@ -346,39 +349,41 @@ module _ (g : Geometry) (operations : Routines) (meaning : List ℕ → ℕ → 
             (like_case b whole ts lone instr like));
       }
 
+  done_only : (r : Option Why) (c : Counts)
+      → is_refused (joined none_yet (reply_by r c ∷ [])) ≡ false → r ≡ None
+  done_only None c done = refl
+  done_only (Some why) c done = absurd (cc)
+
   print_right : (banks : Banks) (whole : Whole) (ts : List Trio) (lone : List Held) (p : Place)
-      (r : Option Why)
-      → refusal g operations (table_of (spread ts)) (Print (place_on x_letter p)) ≡ r
       → Agrees g banks (spread ts) → AllLike (element_at g spot) whole (map alone ts) lone
-      → is_refused (joined none_yet (reply_by r (counts_for g operations (table_of (spread ts))
-      (Print (place_on x_letter p))) ∷ [])) ≡ false → whole p.name ≡ true
-      → slice_index (take (rows_of (table_of (spread ts)) (place_on x_letter p)).count
-      (columns g banks (rows_of (table_of (spread ts)) (place_on x_letter p)))) (element_at g spot)
-      ≡ slice_index (take (rows_of (table_of lone) p).count (numbers_at lone p))
-      (element_at g spot)
-  print_right banks whole ts lone p (Some why) e a like done w = cc
-  print_right banks whole ts lone p None e a like done w =
+      → PrintsWhole g operations spot whole (table_of (spread ts)) banks lone (Print p)
+  print_right banks whole ts lone p a like done =
       let at = element_at g spot in
       let first = place_on x_letter p in
       let table = table_of (spread ts) in
+      let o = rows_of table first in
+      let e = done_only (refusal g operations table (Print first)) _ done in
       let is = operand_is (is_absent table first.name) (goes_past table first) [] e in
+      let inside = operand_within g banks (spread ts) first a (not_false _ is.0) in
+      let size = columns_length g banks o (λ bank l. a.shaped bank (omega (arith, l, inside))) in
+      let room = (div_ceil_times o.count (column_count g) (omega (arith, words))).0 in
       let column = operand_columns g banks (spread ts) first a (not_false _ is.0) is.1 in
       let copies = ap (map (seen p.part)) (copy_numbers x_letter (λ t. t.x) ts p.name is_x) in
       let counts = (like_copies x_letter (λ t. t.x) ts is_x).counted p
       ∙ count_like at whole (map alone ts) lone p like in
-      let n = place_like at whole (map alone ts) lone p like in
-      ap (λ (ns : List ℕ). slice_index (take (rows_of table first).count ns) at)
-      (sym column ∙ copies)
-      ∙ take_at (rows_of table first).count at (numbers_at (map alone ts) p) (numbers_at lone p)
-      n.0 (n.1 w)
-      ∙ ap (λ c. slice_index (take c (numbers_at lone p)) at) counts
+      let n = place_like at whole (map alone ts) lone p like in (
+        length-take-le o.count (columns g banks o) (omega (arith, size, room)) ∙ counts,
+        λ w. ap (λ (ns : List ℕ). slice_index (take o.count ns) at) (sym column ∙ copies)
+            ∙ take_at o.count at (numbers_at (map alone ts) p) (numbers_at lone p) n.0 (n.1 w)
+            ∙ ap (λ c. slice_index (take c (numbers_at lone p)) at) counts,
+      )
 
   pub prints : (banks : Banks) (whole : Whole) (ts : List Trio) (lone : List Held)
       (instr : Instruction)
       → Agrees g banks (spread ts) → AllLike (element_at g spot) whole (map alone ts) lone
       → PrintsWhole g operations spot whole (table_of (spread ts)) banks lone instr
   prints banks whole ts lone (Print p) a like =
-      print_right banks whole ts lone p _ refl a like
+      print_right banks whole ts lone p a like
   prints banks whole ts lone (Init name count n) a like = tt
   prints banks whole ts lone (Bbop op dst srcs count n) a like = tt
   prints banks whole ts lone (Load p values) a like = tt

@@ -1,7 +1,8 @@
--- Elements that are whole: all three copies have the number of a run without flips. They are told
--- for one column of one bank, in which an object has one element at most, by the objects' names.
+-- Elements that are sure to be right by their hits, here called whole: all three copies have the
+-- number of a run without flips. They are told for one column of one bank, in which an object has
+-- one element at most, by the objects' names.
 use Rattle.std.specs.Prelude.{◌≡◌, ℕ, ◌+◌, ◌*◌, ◌==◌, Bool, true, false, not, ◌&&◌, ◌||◌, is_none}
-use Rattle.std.specs.Prelude.{if◌then◌else◌, List, [], ◌∷◌, slice_index, take}
+use Rattle.std.specs.Prelude.{if◌then◌else◌, List, [], ◌∷◌, length, slice_index, take}
 use Rattle.std.specs.List.{list_all}
 use Rattle.std.specs.Str.{bytes_eq}
 use Rattle.dram_model.specs.declared.geometry.Geometry.{Geometry}
@@ -31,7 +32,8 @@ pub record Spot : Type 0 where
 abbrev pub element_at : Geometry → Spot → ℕ
 element_at g spot = spot.bank * column_count g + spot.column
 
--- of each name, whether the element of its object is whole; so is what no object has
+-- of each name, whether the element of its object is sure to be right by its hits; so is what no
+-- object has
 abbrev pub Whole : Type 0
 Whole = List ℕ → Bool
 
@@ -111,16 +113,18 @@ HoldsWhole g banks spot whole (x ∷ []) state = ⊥
 HoldsWhole g banks spot whole (x ∷ y ∷ []) state = ⊥
 HoldsWhole g banks spot whole (x ∷ y ∷ z ∷ rest) [] = ⊥
 
--- what a print that is done prints of a whole element is the number of these objects
+-- a print that is done prints as many numbers as the object has elements, and of a whole element
+-- the number of these objects
 abbrev pub PrintsWhole : Geometry → Routines → Spot → Whole → List Named → Banks → List Held
     → Instruction → Type 0
 PrintsWhole g operations spot whole table banks state (Print place) =
     let o = rows_of table (place_on x_letter place) in
+    let printed = take o.count (columns g banks o) in
+    let count = (rows_of (table_of state) place).count in
     is_refused (guarded_reply g operations table (Print place)) ≡ false
-    → whole place.name ≡ true
-    → slice_index (take o.count (columns g banks o)) (element_at g spot)
-    ≡ slice_index (take (rows_of (table_of state) place).count (numbers_at state place))
-    (element_at g spot)
+    → (length printed ≡ count)
+    × (whole place.name ≡ true → slice_index printed (element_at g spot)
+    ≡ slice_index (take count (numbers_at state place)) (element_at g spot))
 PrintsWhole g operations spot whole table banks state (Init name count n) = Unit {0}
 PrintsWhole g operations spot whole table banks state (Bbop op dst srcs count n) = Unit {0}
 PrintsWhole g operations spot whole table banks state (Load place values) = Unit {0}

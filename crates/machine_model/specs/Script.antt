@@ -114,6 +114,16 @@ rows_printed g table (Fill place value) = 0
 rows_printed g table (Free name) = 0
 rows_printed g table (Order o) = 0
 
+-- and in how many banks it reads them
+abbrev pub banks_printed : Geometry → List Named → Instruction → ℕ
+banks_printed g table (Print place) = segments g (rows_of table place)
+banks_printed g table (Load place values) = 0
+banks_printed g table (Init name count n) = 0
+banks_printed g table (Bbop op dst srcs count n) = 0
+banks_printed g table (Fill place value) = 0
+banks_printed g table (Free name) = 0
+banks_printed g table (Order o) = 0
+
 -- the rows of one instruction, where it is done
 abbrev pub rows_if_done : (Geometry → List Named → Instruction → ℕ) → Geometry → Routines
     → List Named → Instruction → ℕ

@@ -15,6 +15,6 @@ pub use faults::NoMemory;
 pub use image::Image;
 pub use reading::{images_are_exact, read_geometry, read_image, read_table};
 pub use sizes::{HEAD_BYTES, IMAGE_BYTES_MAX, OBJECTS_MAX, RECORD_BYTES};
-pub use spelling::{empty_image, image_head, put_head, record_of};
+pub use spelling::{empty_image, put_head, record_of};
 pub use table::{Object, Table, free_is_least};
 pub use words::{bytes_of_words, words_of_bytes};

@@ -10,7 +10,7 @@ ghost use Rattle.object_alloc.specs.Spelling.{object_bytes, opening_bytes, geome
 ghost use Rattle.object_alloc.specs.Spelling.{head_bytes, image_bytes, blank_rows};
 ghost use Rattle.file_fields.specs.Fields.{name_bytes};
 
-use crate::sizes::{HEAD_BYTES, RECORD_BYTES};
+use crate::sizes::HEAD_BYTES;
 use crate::table::{Object, Table};
 use arrayvec::ArrayVec;
 use dram_model::Geometry;
@@ -98,15 +98,6 @@ pub fn put_head(out: &mut Vec<u8>, g: Geometry, table: &Table)
     put_opening(out, g);
     append(out, &table.len().to_le_bytes());
     put_objects(out, table);
-}
-
-/// All that stands before the rows in an image file.
-pub fn image_head(g: Geometry, table: &Table, alloc: Global) -> Result<Vec<u8>, NoMemory>
-    ensures { IfOk result (λ head. head.items ≡ head_bytes g table.now.pairs) }
-{
-    let mut head = Vec::with_capacity(alloc, HEAD_BYTES + RECORD_BYTES * usize::from(table.len()))?;
-    put_head(&mut head, g, table);
-    Ok(head)
 }
 
 /// The file of an image without objects, whose rows are zeros.

@@ -23,7 +23,7 @@ pub did_all : (r : Option Why) (events : List Event) (a b : ChipView) → r ≡ 
 did_all r events a b e did = rw e did
 
 pub stopped_all : (r : Option Why) (events : List Event) (a b : Banks) → r ≡ None
-    → StoppedWithin events a b → StoppedWithin (if_done r events []) a b
+    → StoppedWithin 0 events a b → StoppedWithin 0 (if_done r events []) a b
 stopped_all r events a b e s = rw e s
 
 pub did_nothing : (r : Option Why) (reason : Why) (events : List Event) (a : ChipView)

@@ -1,7 +1,7 @@
 -- Values of few bits.
 use Rattle.object_steps.proofs.Common.{◌≡◌, ℕ, ◌/◌, ◌<◌, ◌≤◌, true, false, not, refl, arith, nat_le}
-use Rattle.object_steps.proofs.Common.{inl, inr, cases_lt, nat_tests}
-use Rattle.std.proofs.Common.{◌^◌, nat_lt, nat_eq}
+use Rattle.object_steps.proofs.Common.{inl, inr, cases_lt, nat_tests, ◌^◌, nat_lt}
+use Rattle.std.proofs.Common.{nat_eq}
 use Rattle.std.proofs.Math.Nat.{div-eq_of_lt}
 use Rattle.std.proofs.Math.Pow.{pow_mono}
 use Rattle.std.proofs.lemmas.Nat.{le-div}

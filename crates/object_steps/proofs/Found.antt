@@ -3,8 +3,8 @@ use Rattle.object_steps.proofs.Common.{◌≡◌, ℕ, Bool, true, false, cond, 
 use Rattle.object_steps.proofs.Common.{None, refl, sym, ◌∙◌, ap, subst, arith, All, is_some}
 use Rattle.object_steps.proofs.Common.{unwrap_or, ◌^◌, option_map, bytes_eq, Object, end_of, Named}
 use Rattle.object_steps.proofs.Common.{has_name, look_up, without, Geometry, IsObject, Why, first}
-use Rattle.object_steps.proofs.Common.{is_absent, object_named, when, look_up-some}
-use Rattle.std.specs.Prelude.{not, ◌||◌, ◌<◌, ◌≤◌}
+use Rattle.object_steps.proofs.Common.{is_absent, object_named, when, look_up-some, not, ◌<◌, ◌≤◌}
+use Rattle.std.specs.Prelude.{◌||◌}
 use Rattle.std.specs.List.{find}
 use Rattle.std.proofs.lemmas.List.Elements.{All-head, All-tail, recursion_from_All}
 use Rattle.object_alloc.specs.Listed.{IsTable}
@@ -14,8 +14,8 @@ use Rattle.machine_model.specs.Refusals.{nothing}
 use Rattle.machine_model.proofs.Bbops.{part_end}
 use Rattle.machine_model.proofs.Sliced.{within}
 use Rattle.machine_model.proofs.Tables.{object_holds}
-use Rattle.machine_model.specs.declared.Why.TheVariants as why
 use Rattle.object_steps.specs.Objects.{FitsOn}
+use Rattle.machine_model.specs.declared.Why.TheVariants as why
 
 -- an object that is found has its name in the table
 pub has_found : (pairs : List Named) (name : List ℕ) (o : Object) → Some o ≡ look_up pairs name

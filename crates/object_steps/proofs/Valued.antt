@@ -7,8 +7,8 @@ use Rattle.object_steps.proofs.Common.{range_with_len, mul_comm, mul-le-mul_righ
 use Rattle.object_steps.proofs.Common.{Geometry, Object, columns, segments, Named, Routines, Place}
 use Rattle.object_steps.proofs.Common.{place_text, is_absent, goes_past, rows_of, cases_lt}
 use Rattle.object_steps.proofs.Common.{div_ceil_times, get_or, Banks, column_count, segments_of}
-use Rattle.object_steps.proofs.Common.{stage_number, stage_rows}
-use Rattle.std.specs.Prelude.{nat_le, if◌then◌else◌}
+use Rattle.object_steps.proofs.Common.{stage_number, stage_rows, nat_le}
+use Rattle.std.specs.Prelude.{if◌then◌else◌}
 use Rattle.std.proofs.lemmas.Nat.{div-mul-add}
 use Rattle.std.proofs.Math.Seq.{take-append-add}
 use Rattle.std.proofs.lemmas.Grind.{flat_map-append}

@@ -62,6 +62,7 @@ fn fill_bank<D: Dram>(dram: &mut D, bank: u16, o: Object, value: Value) -> Resul
     ensures aap { OnOk result ((D.view dram.new).counters.aap
         ≡ (D.view dram.old).counters.aap + o.width) }
     ensures failed { OnErr result (FailedIn bank (D.view dram.old) (D.view dram.new)) }
+    ensures some { OnErr result (0 < o.width) }
 {
     for k in 0..o.width {
         dram.aap(bank, constant_row(value, k), Addr::D(o.base + u16::from(k)))?;
@@ -90,7 +91,7 @@ pub(crate) fn fill_object<D: Dram>(
         (D.view dram.new).counters) }
     ensures failed { OnErr result (FailedBelow (segments g o) (D.view dram.old)
         (D.view dram.new)) }
-    ensures stopped { OnErr result (StoppedWithin (fill_events g o value) (D.view dram.old).banks
+    ensures stopped { OnErr result (StoppedWithin 0 (fill_events g o value) (D.view dram.old).banks
         (D.view dram.new).banks) }
 {
     for bank in 0..segments(g, o) {
@@ -158,13 +159,13 @@ pub fn fill<D: Dram>(
         (D.view dram.new).counters) }
 
     // Where a call fails, the instruction is not refused, no bank past the operand's is changed,
-    // and every bank but one stands where a first part of the events leaves it.
+    // and every bank but its own stands where the events before leave it.
     ensures allowed { (operations : Routines) → OnErr result
         (refusal g operations table.now.pairs (Fill place.now value) ≡ None) }
     ensures failed { OnErr result (FailedBelow (segments g (rows_of table.now.pairs place.now))
         (D.view dram.old) (D.view dram.new)) }
     ensures stopped { (operations : Routines) → OnErr result
-        (StoppedWithin (events_alone g operations table.now.pairs (Fill place.now value))
+        (StoppedWithin 0 (events_alone g operations table.now.pairs (Fill place.now value))
         (D.view dram.old).banks (D.view dram.new).banks) }
 {
     match fillable(g, table, place, value) {

@@ -88,14 +88,14 @@ pub fn trsp_init<D: Dram>(
         (D.view dram.new).counters) }
 
     // Where a call fails, the instruction is not refused, no bank past the new object's is changed,
-    // every bank but one stands where a first part of the events leaves it, and the table is as
+    // every bank but its own stands where the events before leave it, and the table is as
     // before.
     ensures allowed { (operations : Routines) → OnErr result
         (refusal g operations table.old.pairs (Init name.now count n) ≡ None) }
     ensures failed { OnErr result (FailedBelow (segments g (new_object g table.old.pairs count n))
         (D.view dram.old) (D.view dram.new)) }
     ensures stopped { (operations : Routines) → OnErr result
-        (StoppedWithin (events_alone g operations table.old.pairs (Init name.now count n))
+        (StoppedWithin 0 (events_alone g operations table.old.pairs (Init name.now count n))
         (D.view dram.old).banks (D.view dram.new).banks) }
     ensures unlisted { OnErr result (table.new ≡ table.old) }
 {

@@ -91,13 +91,13 @@ pub fn load<D: Dram>(
         (D.view dram.new).counters) }
 
     // Where a call fails, the instruction is not refused, no bank past the operand's is changed,
-    // and every bank but one stands where a first part of the events leaves it.
+    // and every bank but its own stands where the events before leave it.
     ensures allowed { (operations : Routines) → OnErr result
         (refusal g operations table.now.pairs (Load place.now values.now) ≡ None) }
     ensures failed { OnErr result (FailedBelow (segments g (rows_of table.now.pairs place.now))
         (D.view dram.old) (D.view dram.new)) }
     ensures stopped { (operations : Routines) → OnErr result
-        (StoppedWithin (events_alone g operations table.now.pairs (Load place.now values.now))
+        (StoppedWithin 0 (events_alone g operations table.now.pairs (Load place.now values.now))
         (D.view dram.old).banks (D.view dram.new).banks) }
 {
     match loadable(g, table, place, values) {

@@ -53,6 +53,7 @@ type Piece = ArrayVec<u8, PIECE_BYTES>;
 /// Puts what is held back, where there is no room for one more value.
 fn make_room<S: Sink>(text: &mut Piece, out: &mut S) -> Result<(), Failed>
     ensures counts { (S.view out.old).faults ≤ (S.view out.new).faults }
+    ensures unfailed { OnOk result ((S.view out.new).faults ≡ (S.view out.old).faults) }
     ensures held { OnOk result (Known (AppendsUpTo text.new.items text.old.items)
         (S.view out.old).sent (S.view out.new).sent) }
     ensures room { OnOk result (length text.new.items + VALUE_BYTES < PIECE_BYTES) }
@@ -70,6 +71,7 @@ fn make_room<S: Sink>(text: &mut Piece, out: &mut S) -> Result<(), Failed>
 /// Appends a value after a blank, and puts what was held back where there is no room for it.
 fn add_value<S: Sink>(text: &mut Piece, value: Value, out: &mut S) -> Result<(), Failed>
     ensures counts { (S.view out.old).faults ≤ (S.view out.new).faults }
+    ensures unfailed { OnOk result ((S.view out.new).faults ≡ (S.view out.old).faults) }
     ensures held { OnOk result (Known (AppendsUpTo text.new.items
         (text.old.items ++ (codes " " ++ decimal value))) (S.view out.old).sent
         (S.view out.new).sent) }
@@ -88,6 +90,7 @@ fn add_value<S: Sink>(text: &mut Piece, value: Value, out: &mut S) -> Result<(),
 fn add_all<S: Sink>(values: &[Value], text: &mut Piece, out: &mut S) -> Result<(), Failed>
     requires room { length text.old.items < PIECE_BYTES }
     ensures counts { (S.view out.old).faults ≤ (S.view out.new).faults }
+    ensures unfailed { OnOk result ((S.view out.new).faults ≡ (S.view out.old).faults) }
     ensures held { OnOk result (Known (AppendsUpTo text.new.items
         (text.old.items ++ values_text values.now)) (S.view out.old).sent (S.view out.new).sent) }
     ensures room { OnOk result (length text.new.items < PIECE_BYTES) }
@@ -122,6 +125,7 @@ fn add_columns<S: Sink>(
     requires columns { count ≤ 64 * (length stage.now / stage_rows n) }
     requires room { length text.old.items < PIECE_BYTES }
     ensures counts { (S.view out.old).faults ≤ (S.view out.new).faults }
+    ensures unfailed { OnOk result ((S.view out.new).faults ≡ (S.view out.old).faults) }
     ensures held { OnOk result (Known (AppendsUpTo text.new.items (text.old.items ++ values_text
         (map (stage_number (length stage.now / stage_rows n) n stage.now)
         (range_with_len 0 count)))) (S.view out.old).sent (S.view out.new).sent) }
@@ -168,6 +172,7 @@ fn add_values<D: Dram, S: Sink>(
     ensures borrow { D.borrow dram.new ≡ D.borrow dram.old }
     ensures kept { Kept (D.view dram.old) (D.view dram.new) }
     ensures sink_faults { (S.view out.old).faults ≤ (S.view out.new).faults }
+    ensures unfailed { OnOk result ((S.view out.new).faults ≡ (S.view out.old).faults) }
     ensures did { OnOk result (DidRead (o.width * segments g o) (D.view dram.old)
         (D.view dram.new)) }
     ensures held { OnOk result (Known (AppendsUpTo text.new.items (text.old.items ++ values_text
@@ -180,7 +185,7 @@ fn add_values<D: Dram, S: Sink>(
     ensures chip_fault { IsErrOf result StepFault.ChipFault
         → FailedBelow (segments g o) (D.view dram.old) (D.view dram.new) }
     ensures stopped { IsErrOf result StepFault.ChipFault
-        → StoppedWithin [] (D.view dram.old).banks (D.view dram.new).banks }
+        → StoppedWithin (segments g o) [] (D.view dram.old).banks (D.view dram.new).banks }
     ensures no_event { Grew (D.view dram.old).log (D.view dram.new).log [] }
     ensures write_fault { IsErrOf result StepFault.WriteFault
         → Rose (S.view out.old).faults (S.view out.new).faults }
@@ -254,6 +259,7 @@ pub fn print<D: Dram, S: Sink>(
     ensures kept { Kept (D.view dram.old) (D.view dram.new) }
     ensures stage { length stage.new ≡ length stage.old }
     ensures sink_faults { (S.view out.old).faults ≤ (S.view out.new).faults }
+    ensures unfailed { OnOk result ((S.view out.new).faults ≡ (S.view out.old).faults) }
     ensures reply { (operations : Routines) → IfOk result (λ reply. reply
         ≡ reply_to g operations table.now.pairs (Print place.now)) }
     ensures did { (operations : Routines) → OnOk result
@@ -275,7 +281,8 @@ pub fn print<D: Dram, S: Sink>(
     ensures chip_fault { IsErrOf result StepFault.ChipFault → FailedBelow
         (segments g (rows_of table.now.pairs place.now)) (D.view dram.old) (D.view dram.new) }
     ensures stopped { IsErrOf result StepFault.ChipFault
-        → StoppedWithin [] (D.view dram.old).banks (D.view dram.new).banks }
+        → StoppedWithin (segments g (rows_of table.now.pairs place.now)) [] (D.view dram.old).banks
+        (D.view dram.new).banks }
     ensures no_event { Grew (D.view dram.old).log (D.view dram.new).log [] }
     ensures write_fault { IsErrOf result StepFault.WriteFault
         → Rose (S.view out.old).faults (S.view out.new).faults }

@@ -1,2 +1,2 @@
-mod Safe
-mod Single
+pub mod Safe
+pub mod Single

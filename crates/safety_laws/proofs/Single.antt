@@ -166,7 +166,7 @@ stopped_uses_are_safe g p turn table script instr banks left bank row is fits pl
     let at = table_at_end g o table script in
     let now = banks_at_end g o table banks script in
     let all = done_elsewhere g o at instr bank row (refusal g o at instr) beside in
-    let first = first_part (Elsewhere bank row) stop.done stop.rest
+    let first = first_part (Elsewhere bank row) stop.done stop.left
     (subst (λ (es : List Event). AllByRecursion (Elsewhere bank row) es) (sym stop.all) all) in
     ap (row_in row) (stop.others bank apart) ∙ events_leave stop.done now bank row first
     ∙ untouched_stays g p table script banks bank row is fits.listed plain before

@@ -14,26 +14,18 @@ use Rattle.object_alloc.specs.Listed.{Named}
 use Rattle.bbop_isa.specs.Forms.{Instruction}
 use Rattle.machine_model.specs.Agrees.{IsPlain}
 use Rattle.machine_model.specs.Laws.{TableFits}
-use Rattle.machine_model.specs.Pieces.{Alone, AreBbops, Wave, piece_events, wave_queues}
+use Rattle.machine_model.specs.Pieces.{AreBbops}
 use Rattle.machine_model.specs.Routines.{Program, Routines, routines_in}
 use Rattle.machine_model.specs.Script.{banks_at_end, is_touched_by, table_at_end}
 use Rattle.machine_model.specs.Steps.{is_touched}
-use Rattle.cli_model.specs.Waves.{ChipUse, ChipWave, StoppedIn, StoppedWithin}
+use Rattle.cli_model.specs.Waves.{ChipUse, ChipWave, IsLeftBy, StoppedIn}
+use Rattle.simdram_cli.specs.Job.{use_on, wave_on}
 
 -- The first k commands of legal code keep each data row outside results, scratch and spill group,
 -- as all of them do
 abbrev pub FirstPartsKeep : Type 0
 FirstPartsKeep = (shape : Shape) (code : List Uop) → IsLegalCode shape code → (n k : ℕ)
     → Keeps shape n (take k (issues_of (trace shape code n)))
-
--- a wave of bbops under an order in force, on a chip with these banks
-abbrev pub wave_on : Geometry → Routines → Turn → List Named → Banks → List Instruction → ChipWave
-wave_on g operations turn table banks wave = record {
-  count = g.banks;
-  banks = banks;
-  events = piece_events g operations turn table (Wave wave);
-  queue = wave_queues g operations table wave;
-}
 
 -- the wave after a script
 abbrev pub wave_after : Geometry → Routines → Turn → List Named → Banks → List Instruction
@@ -57,22 +49,21 @@ StoppedWavesAreSafe =
     ≡ false
     → row_in row (left bank) ≡ row_in row (banks bank)
 
--- another instruction after a script, which uses the chip by itself
+-- the instruction after a script
 abbrev pub use_after : Geometry → Routines → Turn → List Named → Banks → List Instruction
     → Instruction → ChipUse
-use_after g operations turn table banks script instr = record {
-  banks = banks_at_end g operations table banks script;
-  events = piece_events g operations turn (table_at_end g operations table script) (Alone instr);
-}
+use_after g operations turn table banks script instr =
+    use_on g operations turn (table_at_end g operations table script)
+    (banks_at_end g operations table banks script) instr
 
 -- The same where it failed in an instruction by itself: a data row that the script's done
--- instructions and this one may not touch is as it was, in every bank but one
+-- instructions and this one may not touch is as it was, in every bank but that of the failed call
 abbrev pub StoppedUsesAreSafe : Type 0
 StoppedUsesAreSafe =
     (g : Geometry) (p : Program) (turn : Turn) (table : List Named) (script : List Instruction)
     (instr : Instruction) (banks left : Banks) (bank row : ℕ)
     → IsProgram p → TableFits g table → AllByRecursion IsPlain script
-    → (stop : StoppedWithin (use_after g (routines_in p) turn table banks script instr) left)
+    → (stop : IsLeftBy (use_after g (routines_in p) turn table banks script instr) left)
     → bank ≢ stop.bank → is_touched_by g (routines_in p) table script bank row ≡ false
     → is_touched g (routines_in p) (table_at_end g (routines_in p) table script) instr bank row
     ≡ false

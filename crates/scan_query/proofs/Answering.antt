@@ -9,16 +9,16 @@ use Rattle.scan_query.proofs.Common.{events_of_pieces, pieces, piece_of, turn_at
 use Rattle.scan_query.proofs.Common.{Machine, geometry_of, operations_by, program_of, table_in}
 use Rattle.scan_query.proofs.Common.{turn_in, DidAndRead, Refused, checked, checked_from, count_of}
 use Rattle.scan_query.proofs.Common.{scan_script, free_name, Query, Compare, Negate, Node}
-use Rattle.scan_query.proofs.Common.{nodes_from, size, each_is_alone, size_is}
-use Rattle.std.specs.Prelude.{All, Ok}
-use Rattle.dram_model.specs.Chip.{Grew, after}
+use Rattle.scan_query.proofs.Common.{nodes_from, size, each_is_alone, size_is, Ok, after, segments}
+use Rattle.std.specs.Prelude.{All}
+use Rattle.dram_model.specs.Chip.{Grew}
 use Rattle.dram_model.proofs.EventLaws.{Grew-more}
 use Rattle.uprog_code.specs.Texts.{ImplementsAll}
 use Rattle.object_alloc.specs.declared.table.Object.{Object}
 use Rattle.object_alloc.specs.Free.{end_of}
 use Rattle.object_alloc.specs.Listed.{limit_of}
 use Rattle.object_alloc.specs.Spelling.{IsObject}
-use Rattle.machine_model.specs.Columns.{columns, segments}
+use Rattle.machine_model.specs.Columns.{columns}
 use Rattle.machine_model.specs.Laws.{FitsBanks}
 use Rattle.machine_model.specs.Script.{banks_at_end, replies, sum_of, with_counts, with_writes}
 use Rattle.machine_model.proofs.Bounds.{geometry_parts}

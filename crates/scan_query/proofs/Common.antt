@@ -3,7 +3,7 @@ pub use Rattle.bbop_isa.specs.Forms.{Bbop, Fill, Free, Init, Instruction, Load, 
 pub use Rattle.bbop_isa.specs.Forms.{view_of}
 pub use Rattle.bit_rows.specs.Bits.{bits_of_words}
 pub use Rattle.dram_model.proofs.EventLaws.{Did-more, Kept-more}
-pub use Rattle.dram_model.specs.Chip.{Banks, Event, all_counted}
+pub use Rattle.dram_model.specs.Chip.{Banks, Event, after, all_counted}
 pub use Rattle.dram_model.specs.Elements.{below, column_count, number, segments_of}
 pub use Rattle.dram_model.specs.View.{ChipView, Did, DidRead, with_reads}
 pub use Rattle.dram_model.specs.declared.dram.Counters.{Counters}
@@ -11,11 +11,13 @@ pub use Rattle.dram_model.specs.declared.geometry.Geometry.{Geometry}
 pub use Rattle.grammar.specs.declared.Breach.{Breach}
 pub use Rattle.machine_model.proofs.Parts.{pieces_go_on, scripts_go_on}
 pub use Rattle.machine_model.specs.Agrees.{IsPlain}
-pub use Rattle.machine_model.specs.Pieces.{Piece, events_of_pieces, piece_of, pieces, turn_at_end}
+pub use Rattle.machine_model.specs.Columns.{segments}
+pub use Rattle.machine_model.specs.Pieces.{Piece, events_of_pieces, piece_events, piece_of, pieces}
+pub use Rattle.machine_model.specs.Pieces.{turn_at_end}
 pub use Rattle.machine_model.specs.Refusals.{refusal}
 pub use Rattle.machine_model.specs.Routines.{Routines}
 pub use Rattle.machine_model.specs.Script.{table_at_end}
-pub use Rattle.machine_model.specs.Steps.{counts_for, reply_by}
+pub use Rattle.machine_model.specs.Steps.{counts_for, if_done, reply_by}
 pub use Rattle.machine_model.specs.declared.Why.{Why}
 pub use Rattle.object_alloc.specs.Listed.{Named, has_name}
 pub use Rattle.scan_model.proofs.Counted.{each_is_alone}
@@ -48,6 +50,7 @@ pub use Rattle.std.specs.Result.{IsErrAnd}
 pub use Rattle.std.specs.Str.{bytes_eq}
 pub use Rattle.text_lex.specs.Lexical.{Bad, Item, Takes, Whole, items_of, lexeme_of}
 pub use Rattle.text_lex.specs.declared.token.LexFault.{LexFault}
+pub use Rattle.transpose_unit.specs.Stopped.{StoppedWithin}
 pub use Rattle.uprog_code.specs.declared.TheConstants.{WALK_MAX}
 pub use Rattle.uprog_code.specs.declared.walker.Counts.{Counts}
 pub use Rattle.wave_model.specs.Schedule.{Turn}

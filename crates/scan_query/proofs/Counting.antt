@@ -9,7 +9,7 @@ use Rattle.std.proofs.Common.{◌%◌, min}
 use Rattle.std.specs.Prelude.{count_ones}
 use Rattle.std.specs.Int.Count.{ones}
 use lib.Count.{ones_step, ones-le}
-use Rattle.std.proofs.Math.Nat.{pow-succ', suc-mul, mod-eq_of_lt, mod-lt}
+use Rattle.std.proofs.Math.Nat.{pow-succ', mod-eq_of_lt, mod-lt}
 use Rattle.std.proofs.Math.Seq.{take-suc}
 use Rattle.std.proofs.lemmas.List.Sums.{sum_by-cons, sum_by-append}
 use Rattle.std.proofs.lemmas.Grind.{flat_map-append}
@@ -18,6 +18,7 @@ use Rattle.bit_rows.proofs.Words.{length-bits, value-bits, bits-value, length-wo
 use Rattle.dram_model.specs.declared.address.Cell.TheVariants.{D}
 use Rattle.dram_model.specs.Column.{Column}
 use Rattle.dram_model.specs.Chip.{row_in}
+use Rattle.machine_model.proofs.Below.{below_length}
 use Rattle.scan_query.proofs.Naming.{range_more}
 
 digit_one : (r : ℕ) → r < 2 → r ≡ cond (r == 1) 1 0
@@ -118,17 +119,6 @@ below_more k banks =
     ∙ flat_map-append banks (range_with_len 0 k) ((0 + k) ∷ [])
     ∙ ap (λ (cs : List Column). below k banks ++ cs) (append-nil (banks (0 + k)) ∙ ap banks same)
 
-below_length : (columns k : ℕ) (banks : Banks) → ((b : ℕ) → b < k → length (banks b) ≡ columns)
-    → length (below k banks) ≡ k * columns
-below_length columns zero banks h = let none : 0 ≡ 0 * columns = omega arith in none
-below_length columns (suc k) banks h =
-    let next : suc k ≡ k + 1 = omega arith in
-    ap (λ n. length (below n banks)) next ∙ ap length (below_more k banks)
-    ∙ length-append (below k banks) (banks k)
-    ∙ ap (λ n. n + length (banks k)) (below_length columns k banks
-    (λ b l. h b (omega (arith, l))))
-    ∙ ap (λ n. k * columns + n) (h k (omega arith)) ∙ sym (suc-mul k columns)
-
 -- one bank more
 pub banks_more : (base columns count k : ℕ) (banks : Banks)
     → ((b : ℕ) → b < k → length (banks b) ≡ columns)
@@ -138,8 +128,9 @@ pub banks_more : (base columns count k : ℕ) (banks : Banks)
 banks_more base columns count k banks h =
     let xs = map (number base 1) (below k banks) in
     let ys = map (number base 1) (banks k) in
+    let long = below_length columns k banks h in
     let size : length xs ≡ k * columns = length-map (below k banks) (number base 1)
-    ∙ below_length columns k banks h in
+    ∙ omega (arith, long) in
     sym (ap (λ (cs : List Column). count_by (λ v. v == 1) (take count (map (number base 1) cs)))
     (below_more k banks)
     ∙ ap (λ (vs : List ℕ). count_by (λ v. v == 1) (take count vs))

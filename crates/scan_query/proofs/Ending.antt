@@ -1,8 +1,8 @@
 -- A whole text is read.
-use Rattle.scan_query.proofs.Common.{◌≡◌, ℕ, Bool, true, false, List, [], ◌∷◌, ◌++◌, Option, Some}
-use Rattle.scan_query.proofs.Common.{None, Result, cond, refl, sym, ap, ◌∙◌, codes, length}
-use Rattle.scan_query.proofs.Common.{bytes_eq, option_map, IsErrAnd, err_from_is_err_and, LexFault}
-use Rattle.scan_query.proofs.Common.{Bad, Item, Whole, items_of, Breach, QueryKind}
+use Rattle.scan_query.proofs.Common.{◌≡◌, ℕ, List, [], ◌∷◌, ◌++◌, Option, Some, None, Result, refl}
+use Rattle.scan_query.proofs.Common.{sym, ap, ◌∙◌, length, option_map, IsErrAnd}
+use Rattle.scan_query.proofs.Common.{err_from_is_err_and, LexFault, Bad, Item, Whole, items_of}
+use Rattle.scan_query.proofs.Common.{Breach, QueryKind}
 use Rattle.text_lex.specs.Lexical.{Lexeme}
 use Rattle.scan_model.specs.TextLaws.{QueryTextLaws, words_of}
 use Rattle.scan_model.proofs.Parts.{written_parts}

@@ -4,6 +4,7 @@ pub mod Naming
 pub mod Counting
 pub mod Nodewise
 pub mod Stopping
+pub mod Until
 pub mod Failing
 pub mod Answering
 mod Taking

@@ -1,16 +1,16 @@
 -- Instructions that are done one after another.
-use Rattle.scan_query.proofs.Common.{◌≡◌, ℕ, zero, suc, ◌+◌, ◌*◌, ◌≤◌, Bool, true, false, cond}
-use Rattle.scan_query.proofs.Common.{take, drop, List, [], ◌∷◌, ◌++◌, map, length, length-append}
-use Rattle.scan_query.proofs.Common.{Option, Some, None, refl, sym, ◌∙◌, ap, subst, arith, flat_map}
-use Rattle.scan_query.proofs.Common.{is_none, slice_get, AllByRecursion, take-append-drop}
-use Rattle.scan_query.proofs.Common.{map-append, ChipView, Did, with_reads, Counters, Did-more}
-use Rattle.scan_query.proofs.Common.{Kept-more, WALK_MAX, Turn, Event, all_counted, Geometry, Named}
-use Rattle.scan_query.proofs.Common.{Counts, Instruction, Init, Bbop, Load, Fill, Print, Free}
-use Rattle.scan_query.proofs.Common.{Order, Why, refusal, reply_by, counts_for, events_of_pieces}
-use Rattle.scan_query.proofs.Common.{piece_of, turn_at_end, Routines, table_at_end, scripts_go_on}
-use Rattle.scan_query.proofs.Common.{pieces_go_on, Machine, geometry_of, operations_by, table_in}
-use Rattle.scan_query.proofs.Common.{turn_in, reply_of, reads_by, is_print, DidAndRead, refused_in}
-use Rattle.scan_query.proofs.Common.{or_else, refused-append}
+use Rattle.scan_query.proofs.Common.{◌≡◌, ℕ, zero, suc, ◌+◌, ◌*◌, Bool, true, false, cond, take}
+use Rattle.scan_query.proofs.Common.{drop, List, [], ◌∷◌, ◌++◌, map, length, length-append, Option}
+use Rattle.scan_query.proofs.Common.{Some, None, refl, sym, ◌∙◌, ap, subst, arith, flat_map}
+use Rattle.scan_query.proofs.Common.{is_none, slice_get, take-append-drop, map-append, ChipView}
+use Rattle.scan_query.proofs.Common.{Did, with_reads, Counters, Did-more, Kept-more, WALK_MAX, Turn}
+use Rattle.scan_query.proofs.Common.{Event, all_counted, Geometry, Named, Counts, Instruction, Init}
+use Rattle.scan_query.proofs.Common.{Bbop, Load, Fill, Print, Free, Order, Why, refusal, reply_by}
+use Rattle.scan_query.proofs.Common.{counts_for, events_of_pieces, piece_of, turn_at_end, Routines}
+use Rattle.scan_query.proofs.Common.{table_at_end, scripts_go_on, pieces_go_on, Machine}
+use Rattle.scan_query.proofs.Common.{geometry_of, operations_by, table_in, turn_in, reply_of}
+use Rattle.scan_query.proofs.Common.{reads_by, is_print, DidAndRead, refused_in, or_else}
+use Rattle.scan_query.proofs.Common.{refused-append}
 use Rattle.dram_model.proofs.EventLaws.{Did-none, Kept-same}
 use Rattle.machine_model.specs.declared.Reply.TheVariants.{Refused}
 use Rattle.machine_model.specs.Pieces.{instrs_in}
@@ -179,26 +179,6 @@ refused_part script i a why e =
     (sym (take-append-drop i script))
     ∙ refused_front (geometry_of a) (operations_by a) (table_in a) (take i script) (drop i script)
     why e
-
-pub plain_at : (P : Instruction → Type 0) (script : List Instruction) (i : ℕ)
-    (instr : Instruction) → AllByRecursion P script → slice_get script i ≡ Some instr → P instr
-plain_at P [] i instr all e = cc
-plain_at P (x ∷ script) zero instr all e = subst P (same x instr e) all.0 where
-  same : (x y : Instruction) → Some x ≡ Some y → x ≡ y
-  same x y e = cc
-plain_at P (x ∷ script) (suc i) instr all e = plain_at P script i instr all.1 e
-
-pub take_short : (script : List Instruction) (n : ℕ) → length script ≤ n → take n script ≡ script
-take_short [] zero l = refl
-take_short [] (suc n) l = refl
-take_short (x ∷ script) zero l = absurd (omega (arith, l))
-take_short (x ∷ script) (suc n) l = ap (λ rest. x ∷ rest) (take_short script n (omega (arith, l)))
-
-take_length : (script : List Instruction) (i : ℕ) → length (take i script) ≤ i
-take_length [] zero = omega arith
-take_length [] (suc i) = omega arith
-take_length (x ∷ script) zero = omega arith
-take_length (x ∷ script) (suc i) = let r = take_length script i in omega (arith, r)
 
 pub at_front : (script : List Instruction) (i : ℕ) (instr : Instruction)
     → slice_get script i ≡ Some instr → instr ∷ [] ≡ take 1 (drop i script)

@@ -2,8 +2,7 @@
 use Rattle.scan_query.proofs.Common.{◌≡◌, ℕ, ◌+◌, Bool, true, false, List, [], ◌∷◌, ◌++◌, map}
 use Rattle.scan_query.proofs.Common.{length, Result, Ok, Err, Option, Some, None, ◌-◌, refl, sym}
 use Rattle.scan_query.proofs.Common.{ap, ◌∙◌, arith, codes, append_assoc, length-append, map-append}
-use Rattle.scan_query.proofs.Common.{length-map, Compare, Negate, Query, Test, nodes_from, size}
-use Rattle.scan_query.proofs.Common.{size_is}
+use Rattle.scan_query.proofs.Common.{length-map, Compare, Negate, Test, nodes_from, size, size_is}
 use Rattle.std.specs.Result.{IfOk, OnOk}
 use Rattle.scan_model.specs.declared.CmpOp.{CmpOp}
 use Rattle.bbop_isa.specs.declared.instr.Part.{Part}

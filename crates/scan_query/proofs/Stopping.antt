@@ -9,12 +9,13 @@ use Rattle.scan_query.proofs.Common.{reply_by, events_of_pieces, piece_of, turn_
 use Rattle.scan_query.proofs.Common.{table_at_end, scripts_go_on, pieces_go_on, Machine, events_by}
 use Rattle.scan_query.proofs.Common.{geometry_of, is_print, operations_by, reads_by, reply_of}
 use Rattle.scan_query.proofs.Common.{table_in, turn_in, DidAndRead, or_else, refused_in}
-use Rattle.scan_query.proofs.Common.{node_instructions, script_from, Node, refused-append}
-use Rattle.std.specs.Prelude.{Ok, sum_by}
+use Rattle.scan_query.proofs.Common.{node_instructions, script_from, Node, refused-append, Ok}
+use Rattle.scan_query.proofs.Common.{if_done, piece_events}
+use Rattle.std.specs.Prelude.{sum_by}
 use Rattle.wave_model.specs.Schedule.{queues, events_of_picks, picks, whole_picks, in_turn}
 use Rattle.machine_model.specs.declared.Reply.TheVariants.{Refused}
-use Rattle.machine_model.specs.Steps.{if_done, job_of, own_events}
-use Rattle.machine_model.specs.Pieces.{piece_events, wave_queues}
+use Rattle.machine_model.specs.Steps.{job_of, own_events}
+use Rattle.machine_model.specs.Pieces.{wave_queues}
 use Rattle.scan_query.specs.Running.{Ran, Runs, StoppedAt}
 use Rattle.scan_query.proofs.Nodewise.{script_snoc}
 use Rattle.scan_query.proofs.Running.{holds_all, refused_one, silent_did, silent_reads}
@@ -46,7 +47,7 @@ none_own : (g : Geometry) (o : Routines) (table : List Named) (instr : Instructi
 none_own g o table instr w e =
     none_done (refusal g o table instr) w (own_events g table instr) e
 
-refused_events : (g : Geometry) (o : Routines) (turn : Turn) (table : List Named)
+pub refused_events : (g : Geometry) (o : Routines) (turn : Turn) (table : List Named)
     (instr : Instruction) (w : Why) → refusal g o table instr ≡ Some w
     → piece_events g o turn table (piece_of instr) ≡ []
 refused_events g o turn table (Bbop op dst srcs count n) w e =

@@ -1,10 +1,9 @@
 -- A query's token is taken.
-use Rattle.scan_query.proofs.Common.{◌≡◌, ℕ, Bool, true, false, List, [], ◌∷◌, ◌++◌, Option, Some}
-use Rattle.scan_query.proofs.Common.{None, Result, Ok, Err, cond, refl, sym, ap, ◌∙◌, subst}
-use Rattle.scan_query.proofs.Common.{option_map, IsErrAnd, AllByRecursion, err_from_is_err_and}
-use Rattle.scan_query.proofs.Common.{LexFault, Item, Whole, Bad, lexeme_of, QueryKind, Breach}
+use Rattle.scan_query.proofs.Common.{◌≡◌, ℕ, true, false, List, [], ◌∷◌, ◌++◌, Option, Some, None}
+use Rattle.scan_query.proofs.Common.{Result, Ok, Err, cond, refl, sym, ap, ◌∙◌, subst, option_map}
+use Rattle.scan_query.proofs.Common.{IsErrAnd, AllByRecursion, err_from_is_err_and, LexFault, Item}
+use Rattle.scan_query.proofs.Common.{Whole, Bad, lexeme_of, QueryKind, Breach}
 use Rattle.std.proofs.lemmas.Bool.{and_from}
-use Rattle.std.proofs.Common.{◌&&◌}
 use Rattle.text_lex.specs.declared.token.TokenKind.{TokenKind}
 use Rattle.text_lex.specs.declared.token.Token.{Token}
 use Rattle.text_lex.specs.Lexical.{IsRight, is_token}

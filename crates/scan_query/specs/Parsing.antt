@@ -17,7 +17,7 @@ pub record IsQueryOf (text : List ℕ) (nodes : List model.Node) : Type 0 where
   pub nodes_are : IsNodesOf tree nodes
 
 -- What a text is parsed as: its query's nodes, where it breaks no rule; or the line and the kind of
--- the first token that does; or want of memory.
+-- the first token that does; or out of memory.
 abbrev pub Parses : List ℕ → Result Query QueryNo → Type 0
 Parses text (Ok q) = IsQueryOf text (nodes_in q)
 Parses text (Err (no.Fault f)) = fault_in text ≡ Some f

@@ -106,7 +106,7 @@ left r = words_of r.items
 abbrev pub breach : List model.Wanted → ParserView → Option (Breach QueryKind)
 breach wanted r = model.breach_of wanted r.begun r.items
 
--- a fault that is told is the one that was found; want of memory may come of any text
+-- a fault that is told is the one that was found; a reader may be out of memory at any text
 abbrev pub Fails : Option (Breach QueryKind) → ReadError → Type 0
 Fails found stop.Memory = Unit {0}
 Fails found (stop.Breach at kind) = found ≡ Some (record { at = at; kind = kind })

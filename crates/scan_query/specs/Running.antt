@@ -1,6 +1,6 @@
 -- What is done on a machine and its chip.
-use Rattle.std.specs.Prelude.{◌≡◌, ℕ, ◌*◌, ◌<◌, List, ◌∷◌, ◌++◌, map, length, Option, Some, None}
-use Rattle.std.specs.Prelude.{Result, Ok, Err}
+use Rattle.std.specs.Prelude.{◌≡◌, ℕ, ◌*◌, ◌<◌, List, [], ◌∷◌, ◌++◌, map, length, Option, Some}
+use Rattle.std.specs.Prelude.{None, Result, Ok, Err}
 use Rattle.dram_model.specs.View.{ChipView, Kept, Did}
 use Rattle.dram_model.specs.declared.dram.Counters.{Counters}
 use Rattle.dram_model.specs.declared.dram.ChipFault.{ChipFault}
@@ -11,6 +11,11 @@ use Rattle.bbop_isa.specs.Forms.{Instruction}
 use Rattle.machine_model.specs.declared.Why.{Why}
 use Rattle.machine_model.specs.Pieces.{events_of_pieces, piece_of, turn_at_end}
 use Rattle.machine_model.specs.Refusals.{refusal}
+use Rattle.machine_model.specs.Routines.{Routines}
+use Rattle.machine_model.specs.Steps.{if_done, table_after}
+use Rattle.object_alloc.specs.Listed.{Named}
+use Rattle.dram_model.specs.declared.geometry.Geometry.{Geometry}
+use Rattle.dram_model.specs.Chip.{Event}
 use Rattle.machine_model.specs.Script.{table_at_end}
 use Rattle.object_steps.specs.Objects.{RisesAtMost}
 use Rattle.sim_machine.specs.declared.machine.Machine.{Machine}
@@ -55,13 +60,23 @@ pub record StoppedAt (why : Why) (script : List Instruction) (m : Machine) (chip
   pub did : Did (events_of_pieces (geometry_of m) (operations_by m) (turn_in m) (table_in m)
       (map piece_of before)) chip chip'
 
--- the chip failed at one of them: every bank but one stands where a first part of their events
--- leaves it
+-- the instructions before the first that is refused
+abbrev pub until_refused : Geometry → Routines → List Named → List Instruction → List Instruction
+until_refused g operations table [] = []
+until_refused g operations table (instr ∷ rest) = if_done (refusal g operations table instr)
+    (instr ∷ until_refused g operations (table_after g operations table instr) rest) []
+
+-- the events of these on a machine
+abbrev pub events_until : Machine → List Instruction → List Event
+events_until m script = events_of_pieces (geometry_of m) (operations_by m) (turn_in m) (table_in m)
+    (map piece_of (until_refused (geometry_of m) (operations_by m) (table_in m) script))
+
+-- the chip failed at one of them, before any was refused: every bank but the failed call's stands
+-- where the events before it leave it
 pub record FailedAmong (script : List Instruction) (m : Machine) (chip chip' : ChipView) : Type 0
   where
     pub rose : Rose chip.faults chip'.faults
-    pub left : StoppedWithin (events_of_pieces (geometry_of m) (operations_by m) (turn_in m)
-        (table_in m) (map piece_of script)) chip.banks chip'.banks
+    pub left : StoppedWithin 0 (events_until m script) chip.banks chip'.banks
 
 -- the instructions were done, or one was refused, or the chip failed
 abbrev pub Runs : List Instruction → Machine → Machine → ChipView → ChipView

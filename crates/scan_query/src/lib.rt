@@ -18,6 +18,5 @@ mod steps;
 
 pub use ops::scan_ops;
 pub use parse::parse_query;
-pub use query::{Node, Query, QueryNo, ScanReply};
+pub use query::{Query, QueryNo, ScanReply};
 pub use run::run_query;
-pub use scan_model::{CmpOp, QueryFault, QueryKind, ScanWhy};

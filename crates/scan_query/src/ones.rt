@@ -105,7 +105,7 @@ pub(crate) fn ones_of<D: Dram>(
         (take object.count (columns g (D.view dram.old).banks object))) }
     ensures did { OnOk result (DidRead (segments g object) (D.view dram.old) (D.view dram.new)) }
     ensures failed { OnErr result (Rose (D.view dram.old).faults (D.view dram.new).faults) }
-    ensures left { OnErr result (StoppedWithin [] (D.view dram.old).banks
+    ensures left { OnErr result (StoppedWithin (segments g object) [] (D.view dram.old).banks
         (D.view dram.new).banks) }
 {
     let words = usize::from(g.words);

@@ -6,6 +6,7 @@ ghost use Rattle.std.specs.List.{AllByRecursion};
 ghost use Rattle.std.specs.Result.{IsOkAnd};
 ghost use Rattle.faults.specs.Counts.{Rose};
 ghost use Rattle.transpose_unit.specs.Stopped.{StoppedWithin};
+ghost use Rattle.dram_model.specs.Chip.{after};
 ghost use Rattle.dram_model.specs.View.{HasBegun, Kept};
 ghost use Rattle.dram_model.specs.Elements.{segments_of};
 ghost use Rattle.object_alloc.specs.Listed.{Named};
@@ -22,7 +23,8 @@ ghost use Rattle.scan_model.specs.Instructions.{count_of, scan_script};
 ghost use Rattle.scan_model.specs.Operations.{scan_text};
 ghost use Rattle.scan_query.specs.Answers.{CountersRose, IsScan, answer_of, is_done};
 ghost use Rattle.scan_query.specs.Queries.{IsNodesOf, node_of, nodes_in, sources_fit};
-ghost use Rattle.scan_query.specs.Running.{AreBelow, NodesRun, StoppedAt, refused_node};
+ghost use Rattle.scan_query.specs.Running.{AreBelow, NodesRun, StoppedAt, events_until};
+ghost use Rattle.scan_query.specs.Running.{refused_node};
 
 use crate::checks::{check, count_of};
 use crate::names::free_names;
@@ -134,11 +136,15 @@ pub fn run_query<D: Dram>(
         → StoppedAt why (scan_script (table_in machine.old) (nodes_in query.now)) machine.old
         (D.view dram.old) (D.view dram.new)) }
     ensures failed { OnErr result (Rose (D.view dram.old).faults (D.view dram.new).faults) }
-    // Where the chip fails, every bank but one stands where a first part of the events leaves it.
-    ensures left { OnErr result (StoppedWithin (events_of_pieces (geometry_of machine.old)
-        (operations_by machine.old) (turn_in machine.old) (table_in machine.old)
-        (pieces (scan_script (table_in machine.old) (nodes_in query.now))))
-        (D.view dram.old).banks (D.view dram.new).banks) }
+    // The banks are what the instructions before the first that is refused leave.
+    ensures used { IfOk result (λ reply. checked (table_in machine.old) (nodes_in query.now) ≡ None
+        → (D.view dram.new).banks ≡ after (events_until machine.old
+        (scan_script (table_in machine.old) (nodes_in query.now))) (D.view dram.old).banks) }
+    // Where the chip fails, every bank but the failed call's is as the events before leave it.
+    ensures left { OnErr result (StoppedWithin (segments_of (geometry_of machine.old)
+        (count_of (table_in machine.old) (nodes_in query.now))) (events_until machine.old
+        (scan_script (table_in machine.old) (nodes_in query.now))) (D.view dram.old).banks
+        (D.view dram.new).banks) }
 {
     let nodes = query.nodes.as_slice();
     let count = count_of(machine.table(), nodes);

@@ -6,20 +6,18 @@ use Rattle.sim_machine.proofs.Common.{Rose, Event, StoppedWithin, ChipView, Did,
 use Rattle.sim_machine.proofs.Common.{StoppedAmong, Instruction, Init, Bbop, Load, Fill, Print}
 use Rattle.sim_machine.proofs.Common.{Free, Order, Reply, Piece, Wave, jobs_of, piece_of, refusal}
 use Rattle.sim_machine.proofs.Common.{line, Answered, is_bbop, StepFault, ChipFault, WriteFault}
-use Rattle.std.specs.Prelude.{take, drop}
-use Rattle.std.proofs.lemmas.List.{take-append-drop}
 use Rattle.machine_model.specs.Steps.{job_of}
-use Rattle.machine_model.specs.Pieces as piece
 use Rattle.sim_machine.specs.declared.machine.Machine.{Machine}
-use Rattle.sim_machine.specs.Machine.{banks_by, events_by, geometry_of, is_print, reply_line, lines_of}
-use Rattle.sim_machine.specs.Machine.{operations_by, queues_by, reads_by}
-use Rattle.sim_machine.specs.Machine.{reply_of, moved_table, table_in}
-use Rattle.sim_machine.specs.Machine.{turn_by_piece, turn_in}
+use Rattle.sim_machine.specs.Machine.{banks_by, events_by, geometry_of, is_print, reply_line}
+use Rattle.sim_machine.specs.Machine.{lines_of, operations_by, queues_by, reads_by, reply_of}
+use Rattle.sim_machine.specs.Machine.{moved_table, table_in, turn_by_piece, turn_in}
 use Rattle.sim_machine.specs.Outcome.{Comes, Stepped}
 use Rattle.sim_machine.specs.Steps.{DidAndRead}
 use Rattle.sim_machine.proofs.Keeping.{goes_to}
 use Rattle.sim_machine.proofs.Waving.{stopped_below}
 use Rattle.sim_machine.proofs.Stepping.{did_only, if_same, no_part, reads_none, said_answered}
+use Rattle.transpose_unit.proofs.Stopping.{stopped_at, stopped_more}
+use Rattle.machine_model.specs.Pieces as piece
 
 shows_none : (instr : Instruction) → is_bbop instr ≡ true → is_print instr ≡ false
 shows_none (Init name count n) e = absurd (cc)
@@ -73,14 +71,9 @@ jobs_below m (instr ∷ wave) k all =
 
 -- all banks but one stand where the events before the one that failed leave them
 among_within : (events : List Event) (queue : Queues) (a b : ChipView)
-    → StoppedAmong events queue a b → StoppedWithin events a.banks b.banks
-among_within events queue a b s = record {
-  done = take s.done events;
-  left = drop s.done events;
-  all = take-append-drop s.done events;
-  bank = s.bank;
-  others = s.others;
-}
+    → StoppedAmong events queue a b → StoppedWithin 0 events a.banks b.banks
+among_within events queue a b s =
+    stopped_at events s.done s.bank s.command a.banks b.banks s.failed s.others
 
 module _ (old new : Machine) (number : ℕ) (instr : Instruction) (wave : List Instruction)
     (chip chip' : ChipView) (sink sink' : SinkView)
@@ -112,13 +105,15 @@ module _ (old new : Machine) (number : ℕ) (instr : Instruction) (wave : List I
         turn_in new ≡ turn_by_piece old (Wave wave)
         → Did (events_by old (Wave wave)) chip chip'
         → Known (λ x y. y ≡ x ++ lines_of old number wave) sink.sent sink'.sent
+        → sink'.faults ≡ sink.faults
         → Stepped old new number instr chip chip' sink sink' (get_or replies 0 d)
-    bbop_done replies d e turn did sent = record {
+    bbop_done replies d e turn did sent unfailed = record {
       answer = ap (λ (rs : List Reply). get_or rs 0 d) (e ∙ ap (map (reply_of old)) is);
       machine = same ∙ goes_to old (record old { turn = turn_in new }) _ _ refl
           (keeps_table old instr bbop) (turn ∙ ap (turn_by_piece old) same_piece);
       did = did_alone did;
       sent = subst (λ text. Known (λ x y. y ≡ x ++ text) sink.sent sink'.sent) one_line sent;
+      unfailed = unfailed;
     }
 
     pub bbop_failed : (fault : StepFault)
@@ -140,7 +135,7 @@ module _ (old new : Machine) (number : ℕ) (instr : Instruction) (wave : List I
           (subst (AllByRecursion (λ i. banks_by old i ≤ banks_by old instr)) (sym is)
           (omega arith, tt)));
       stopped = λ e. stopped_alone (stopped refl);
-      left = among_within _ _ chip chip' (stopped_alone (stopped refl));
+      left = stopped_more _ _ _ _ (among_within _ _ chip chip' (stopped_alone (stopped refl)));
       unsent = λ e. unsent refl;
       part = subst (λ (s : SinkView). Known (AppendsPart (reply_line old number chip.banks instr))
           sink.sent s.sent) (sym (unsent refl)) (no_part _ sink.sent);

@@ -5,8 +5,8 @@ use Rattle.sim_machine.proofs.Common.{◌||◌, find, option_map, bytes_eq, Geom
 use Rattle.sim_machine.proofs.Common.{Counts, walked, BoundJob, CanRun, wave_job, Microprogram}
 use Rattle.sim_machine.proofs.Common.{issues_of, Object, Named, IsTable, limit_of, has_name}
 use Rattle.sim_machine.proofs.Common.{IsObject, Routine, routine_of, first, bbop_conditions}
-use Rattle.sim_machine.proofs.Common.{rows_of, srcs_in, Place, Kind}
-use Rattle.std.specs.Prelude.{unwrap_or, ◌<◌, ◌≤◌}
+use Rattle.sim_machine.proofs.Common.{rows_of, srcs_in, Place, Kind, ◌<◌, ◌≤◌}
+use Rattle.std.specs.Prelude.{unwrap_or}
 use Rattle.std.proofs.lemmas.List.Elements.{All-head, All-tail}
 use Rattle.bit_rows.specs.declared.TheConstants.{WIDTH_MAX}
 use Rattle.uprog_code.specs.Legal.{IsLegalCode}
@@ -29,9 +29,6 @@ use Rattle.sim_machine.specs.Granted.{IsGranted, granted_job}
 use Rattle.sim_machine.proofs.Counting.{has_ended}
 
 -- a state with this table
-still : Named → Held
-still p = record { name = p.0; object = p.1; numbers = [] }
-
 still_table : (table : List Named)
     → table_of (map (λ (p : Named). record { name = p.0; object = p.1; numbers = [] }) table)
     ≡ table

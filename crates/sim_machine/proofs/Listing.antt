@@ -1,9 +1,8 @@
 -- A machine's table is read again from the bytes that spell it.
 use Rattle.sim_machine.proofs.Common.{◌≡◌, ℕ, ◌+◌, ◌*◌, true, List, ◌++◌, length, sym, ap, ◌∙◌}
-use Rattle.sim_machine.proofs.Common.{arith, All, flat_map, Geometry, LiesOn}
-use Rattle.std.proofs.Common.{Ok}
+use Rattle.sim_machine.proofs.Common.{arith, All, flat_map, Geometry, LiesOn, Ok, append-nil}
 use Rattle.std.specs.Int.{w16, to_le_bytes}
-use Rattle.std.proofs.lemmas.List.{append-nil, length-append, drop_all}
+use Rattle.std.proofs.lemmas.List.{length-append, drop_all}
 use Rattle.text_lex.specs.Spelled.{fits_name}
 use Rattle.object_alloc.specs.Listed.{Listing}
 use Rattle.object_alloc.specs.Reading.{table_at}

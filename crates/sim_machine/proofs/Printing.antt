@@ -11,7 +11,7 @@ use Rattle.machine_model.specs.Report.{place_text}
 use Rattle.machine_model.specs.Report.Said.{Printed}
 use Rattle.object_steps.specs.Lines.{printed_line}
 use Rattle.sim_machine.specs.declared.machine.Machine.{Machine}
-use Rattle.sim_machine.specs.Machine.{banks_by, events_by, geometry_of, reply_line}
+use Rattle.sim_machine.specs.Machine.{banks_by, banks_read, events_by, geometry_of, reply_line}
 use Rattle.sim_machine.specs.Machine.{operations_by}
 use Rattle.sim_machine.specs.Machine.{reads_by, reply_of, table_in, turn_in}
 use Rattle.sim_machine.specs.Outcome.{Comes, Stepped, StoppedBySink}
@@ -75,15 +75,16 @@ module _ (old new : Machine) (number : ℕ) (place : Place) (chip chip' : ChipVi
     pub print_done : (reply : Reply) (d : Counts) → reply ≡ reply_of old (Print place) → reply ≡
         Done d
         → DidRead (reads_by old (Print place)) chip chip'
-        → Known (λ x y. y ≡ x ++ shown_line) sink.sent sink'.sent
+        → Known (λ x y. y ≡ x ++ shown_line) sink.sent sink'.sent → sink'.faults ≡ sink.faults
         → Stepped old new number (Print place) chip chip' sink sink' reply
-    print_done reply d e h did sent = record {
+    print_done reply d e h did sent unfailed = record {
       answer = e;
       machine = same ∙ ap (λ (t : List Named). let m : Machine = record old { table = t } in m)
           (print_table old place);
       did = did_read did;
       sent = subst (λ text. Known (λ x y. y ≡ x ++ text) sink.sent sink'.sent)
           (whole_line (not_refused _ _ d (sym h ∙ e))) sent;
+      unfailed = unfailed;
     }
 
     pub print_refused : (reply : Reply) (w : Why) (between : SinkView)
@@ -91,8 +92,9 @@ module _ (old new : Machine) (number : ℕ) (place : Place) (chip chip' : ChipVi
         → DidRead (reads_by old (Print place)) chip chip'
         → Known (λ x y. y ≡ x ++ shown_line) sink.sent between.sent
         → Known (λ x y. y ≡ x ++ line number (Answered reply)) between.sent sink'.sent
+        → sink'.faults ≡ sink.faults
         → Stepped old new number (Print place) chip chip' sink sink' reply
-    print_refused reply w between e h did first sent = record {
+    print_refused reply w between e h did first sent unfailed = record {
       answer = e;
       machine = same ∙ ap (λ (t : List Named). let m : Machine = record old { table = t } in m)
           (print_table old place);
@@ -105,6 +107,7 @@ module _ (old new : Machine) (number : ℕ) (place : Place) (chip chip' : ChipVi
           ∙ ap (λ t. t ++ line number (Answered reply))
           (nothing_more x y shown_line (unshown _ _ w _ (sym h ∙ e)) p)
           ∙ ap (λ t. x ++ t) (refused_line reply w e h)) first sent;
+      unfailed = unfailed;
     }
 
     pub print_unsent : (reply : Reply) (w : Why) (between : SinkView)
@@ -137,7 +140,8 @@ module _ (old new : Machine) (number : ℕ) (place : Place) (chip chip' : ChipVi
         → refusal (geometry_of old) (operations_by old) (table_in old) (Print place) ≡ None
         → Known (AppendsPart shown_line) sink.sent sink'.sent
         → (fault ≡ ChipFault → FailedBelow (banks_by old (Print place)) chip chip')
-        → (fault ≡ ChipFault → StoppedWithin [] chip.banks chip'.banks)
+        → (fault ≡ ChipFault
+        → StoppedWithin (banks_read old (Print place)) [] chip.banks chip'.banks)
         → (fault ≡ WriteFault → Rose sink.faults sink'.faults)
         → (fault ≡ WriteFault
         → DidReadAtMost (rows_printed (geometry_of old) (table_in old) (Print place)) chip chip')
@@ -148,8 +152,8 @@ module _ (old new : Machine) (number : ℕ) (place : Place) (chip chip' : ChipVi
       turn = λ e. ap turn_in same;
       failed = failed refl;
       stopped = λ p. absurd (cc);
-      left = subst (λ events. StoppedWithin events chip.banks chip'.banks) (sym none_else)
-          (left refl);
+      left = subst (λ events. StoppedWithin (banks_read old (Print place)) events chip.banks
+          chip'.banks) (sym none_else) (left refl);
       unsent = λ p. absurd (cc);
       part = subst (λ t. Known (AppendsPart t) sink.sent sink'.sent) (whole_line allowed) part;
     }

@@ -1,9 +1,9 @@
 -- Rows among all rows, and events row by row.
 use Rattle.sim_machine.proofs.Common.{◌≡◌, ℕ, zero, suc, ◌+◌, ◌*◌, ◌<◌, ◌≤◌, List, [], ◌∷◌, ◌++◌}
-use Rattle.sim_machine.proofs.Common.{map, length, take, drop, refl, sym, ◌∙◌, ap, subst, arith}
-use Rattle.sim_machine.proofs.Common.{append_assoc, append-nil, flat_map, range_with_len}
-use Rattle.sim_machine.proofs.Common.{mul-le-mul_right, Event, Geometry, Named, ChipView, Did}
-use Rattle.std.proofs.Common.{add-one, length-append, length-take, length-drop}
+use Rattle.sim_machine.proofs.Common.{map, refl, sym, ◌∙◌, ap, subst, arith, append_assoc}
+use Rattle.sim_machine.proofs.Common.{append-nil, flat_map, range_with_len, mul-le-mul_right, Event}
+use Rattle.sim_machine.proofs.Common.{Geometry, Named, ChipView, Did}
+use Rattle.std.proofs.Common.{add-one}
 use Rattle.std.proofs.Math.Nat.{suc-mul, mul-suc, mul-le-mul_left, mul_comm, mul_assoc}
 use Rattle.std.proofs.lemmas.List.FromFn.{map-range_with_len_more}
 use Rattle.object_alloc.specs.Spelling.{Rows, head_bytes, rows_bytes, image_bytes}
@@ -14,23 +14,14 @@ pub next_row : (f : ℕ → Event) (k : ℕ) (a b c : ChipView) → Did (map f (
     → Did (f k ∷ []) b c → Did (map f (range_with_len 0 (k + 1))) a c
 next_row f k a b c d e = rw (map-range_with_len_more f 0 k k (omega arith)) (Did-more _ _ a b c d e)
 
-flat_suc : (E : ℕ → List Event) (a n : ℕ) → flat_map E (range_with_len a (suc n))
+flat_suc : {X : Type 0} (E : ℕ → List X) (a n : ℕ) → flat_map E (range_with_len a (suc n))
     ≡ flat_map E (range_with_len a n) ++ E (a + n)
 flat_suc E a zero = let e : a + 0 ≡ a = omega arith in append-nil (E a) ∙ ap E (sym e)
 flat_suc E a (suc n) =
     let e : a + 1 + n ≡ a + suc n = omega arith in
-    ap (λ xs. E a ++ xs) (flat_suc E (a + 1) n)
+    ap (λ (xs : List _). E a ++ xs) (flat_suc E (a + 1) n)
     ∙ sym (append_assoc (E a) (flat_map E (range_with_len (a + 1) n)) (E (a + 1 + n)))
-    ∙ ap (λ k. (E a ++ flat_map E (range_with_len (a + 1) n)) ++ E k) e
-
-flat_bytes : (E : ℕ → List ℕ) (a n : ℕ) → flat_map E (range_with_len a (suc n))
-    ≡ flat_map E (range_with_len a n) ++ E (a + n)
-flat_bytes E a zero = let e : a + 0 ≡ a = omega arith in append-nil (E a) ∙ ap E (sym e)
-flat_bytes E a (suc n) =
-    let e : a + 1 + n ≡ a + suc n = omega arith in
-    ap (λ xs. E a ++ xs) (flat_bytes E (a + 1) n)
-    ∙ sym (append_assoc (E a) (flat_map E (range_with_len (a + 1) n)) (E (a + 1 + n)))
-    ∙ ap (λ k. (E a ++ flat_map E (range_with_len (a + 1) n)) ++ E k) e
+    ∙ ap (λ (k : ℕ). (E a ++ flat_map E (range_with_len (a + 1) n)) ++ E k) e
 
 -- one more bank
 pub next_bank : (E : ℕ → List Event) (k : ℕ) (a b c : ChipView)
@@ -78,7 +69,7 @@ pub next_bytes : (E : ℕ → List ℕ) (k : ℕ) (before now next : List ℕ)
     → next ≡ before ++ flat_map E (range_with_len 0 (k + 1))
 next_bytes E k before now next e h =
     let z : 0 + k ≡ k = omega arith in
-    rw (add-one k, flat_bytes E 0 k, z) (h ∙ ap (λ xs. xs ++ E k) e
+    rw (add-one k, flat_suc E 0 k, z) (h ∙ ap (λ xs. xs ++ E k) e
     ∙ append_assoc before (flat_map E (range_with_len 0 k)) (E k))
 
 pub more_reads : (k c r : ℕ) → r + k * c + c ≡ r + (k + 1) * c
@@ -94,13 +85,3 @@ pub image_is : (g : Geometry) (table : List Named) (rows : Rows) (empty head fil
 unfolding image_bytes
 image_is g table rows empty head file e f h =
     h ∙ ap (λ xs. xs ++ rows_bytes g rows) (f ∙ ap (λ xs. xs ++ head_bytes g table) e)
-
--- a stage that was lent has its length, whatever stands in it now
-pub stage_kept : (len n : ℕ) (new items : List ℕ) → length new ≡ length items → length items ≡ len
-    → length items ≡ n → length (take len (new ++ drop (length new) items)) ≡ n
-stage_kept len n new items e f h = omega (
-  arith,
-  length-take len (new ++ drop (length new) items),
-  length-append new (drop (length new) items),
-  length-drop (length new) items,
-)

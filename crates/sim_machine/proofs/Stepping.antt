@@ -1,7 +1,7 @@
 -- What comes of an instruction that no other stands beside.
 use Rattle.sim_machine.proofs.Common.{◌≡◌, ℕ, ◌+◌, Bool, true, false, cond, List, [], ◌∷◌, ◌++◌}
 use Rattle.sim_machine.proofs.Common.{refl, sym, ◌∙◌, ap, subst, append-nil, add-zero, Some, None}
-use Rattle.sim_machine.proofs.Common.{Option, ◌||◌, bytes_eq, SinkView, Known, AppendsPart, Rose}
+use Rattle.sim_machine.proofs.Common.{Option, bytes_eq, SinkView, Known, AppendsPart, Rose}
 use Rattle.sim_machine.proofs.Common.{Counters, Event, all_counted, StoppedWithin, ChipView, Did}
 use Rattle.sim_machine.proofs.Common.{with_reads, FailedBelow, Object, Named, has_name, without}
 use Rattle.sim_machine.proofs.Common.{Geometry, Place, Instruction, Init, Bbop, Load, Fill, Print}
@@ -17,16 +17,16 @@ use Rattle.dram_model.proofs.EventLaws.{Grew-none}
 use Rattle.object_alloc.specs.Listed.{look_up}
 use Rattle.machine_model.proofs.Tables.{made}
 use Rattle.machine_model.specs.Steps.{table_after}
-use Rattle.machine_model.specs.declared.Why.TheVariants as why
-use Rattle.machine_model.specs.Pieces as piece
 use Rattle.sim_machine.specs.declared.machine.Machine.{Machine}
 use Rattle.sim_machine.specs.Machine.{GoesOn, banks_by, events_by, geometry_of, is_print}
-use Rattle.sim_machine.specs.Machine.{reply_line}
-use Rattle.sim_machine.specs.Machine.{operations_by, reads_by, reply_of, moved_table, table_in}
-use Rattle.sim_machine.specs.Machine.{leaves_table, turn_by_piece, turn_in}
+use Rattle.sim_machine.specs.Machine.{reply_line, operations_by, reads_by, reply_of, moved_table}
+use Rattle.sim_machine.specs.Machine.{table_in, leaves_table, turn_by_piece, turn_in, banks_read}
 use Rattle.sim_machine.specs.Outcome.{Stepped, StoppedByChip, StoppedBySink}
 use Rattle.sim_machine.specs.Steps.{DidAndRead}
 use Rattle.sim_machine.proofs.Keeping.{goes_to}
+use Rattle.transpose_unit.proofs.Stopping.{stopped_more}
+use Rattle.machine_model.specs.declared.Why.TheVariants as why
+use Rattle.machine_model.specs.Pieces as piece
 
 -- a line that shows no values is that of the reply
 pub said_answered : (reply : Reply) (instr : Instruction) (values : Place → List ℕ)
@@ -54,6 +54,16 @@ reads_none m (Fill place value) e = either_none _ _ refl
 reads_none m (Print place) e = absurd (cc)
 reads_none m (Free name) e = either_none _ _ refl
 reads_none m (Order o) e = refl
+
+pub none_read : (m : Machine) (instr : Instruction) → is_print instr ≡ false
+    → banks_read m instr ≡ 0
+none_read m (Init name count n) e = refl
+none_read m (Bbop op dst srcs count n) e = refl
+none_read m (Load place loaded) e = refl
+none_read m (Fill place value) e = refl
+none_read m (Print place) e = absurd (cc)
+none_read m (Free name) e = refl
+none_read m (Order o) e = refl
 
 no_reads : (c : Counters) → c ≡ with_reads 0 c
 no_reads c = let e : c.reads + 0 ≡ c.reads = add-zero c.reads in rw e refl
@@ -99,19 +109,20 @@ module _ (old new : Machine) (number : ℕ) (instr : Instruction) (chip chip' : 
         → turn_in new ≡ turn_by_piece old (Alone instr)
         → Did (events_alone (geometry_of old) (operations_by old) (table_in old) instr) chip chip'
         → Known (λ x y. y ≡ x ++ line number (Answered reply)) sink.sent sink'.sent
-        → Stepped old new number instr chip chip' sink sink' reply
-    done_alone reply e table turn did sent = record {
+        → sink'.faults ≡ sink.faults → Stepped old new number instr chip chip' sink sink' reply
+    done_alone reply e table turn did sent unfailed = record {
       answer = e;
       machine = goes_to old new _ _ goes table
           (turn ∙ ap (turn_by_piece old) (sym (alone instr bbop)));
       did = did_piece did;
       sent = subst (λ text. Known (λ x y. y ≡ x ++ text) sink.sent sink'.sent) (answered reply e)
           sent;
+      unfailed = unfailed;
     }
 
     pub failed_alone : table_in new ≡ table_in old → turn_in new ≡ turn_in old
         → FailedBelow (banks_by old instr) chip chip'
-        → StoppedWithin (events_alone (geometry_of old) (operations_by old) (table_in old) instr)
+        → StoppedWithin 0 (events_alone (geometry_of old) (operations_by old) (table_in old) instr)
         chip.banks chip'.banks → sink' ≡ sink
         → StoppedByChip old new number instr chip chip' sink sink'
     failed_alone table turn failed left same = record {
@@ -119,8 +130,8 @@ module _ (old new : Machine) (number : ℕ) (instr : Instruction) (chip chip' : 
       turn = λ e. turn;
       failed = failed;
       stopped = λ e. absurd (cc (e, bbop));
-      left = subst (λ p. StoppedWithin (events_by old p) chip.banks chip'.banks)
-          (sym (alone instr bbop)) left;
+      left = subst (λ p. StoppedWithin (banks_read old instr) (events_by old p) chip.banks
+          chip'.banks) (sym (alone instr bbop)) (stopped_more _ _ _ _ left);
       unsent = λ e. same;
       part = subst (λ (s : SinkView). Known (AppendsPart (reply_line old number chip.banks instr))
           sink.sent s.sent) (sym same) (no_part _ sink.sent);

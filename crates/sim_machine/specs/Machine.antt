@@ -20,7 +20,7 @@ use Rattle.machine_model.specs.Pieces.{turn_at_end, wave_queues}
 use Rattle.machine_model.specs.Report.{Said, line, lines, said_by}
 use Rattle.machine_model.specs.Report.Said.{Answered}
 use Rattle.object_steps.specs.Lines.{printed_line}
-use Rattle.machine_model.specs.Script.{rows_if_done, rows_printed, table_at_end}
+use Rattle.machine_model.specs.Script.{banks_printed, rows_if_done, rows_printed, table_at_end}
 use Rattle.machine_model.specs.Steps.{new_object, reply_to, table_after}
 
 -- the program that its bbops run
@@ -95,6 +95,10 @@ queues_by m wave = wave_queues (geometry_of m) (operations_by m) (table_in m) wa
 -- how many data rows are read for an instruction
 abbrev pub reads_by : Machine → Instruction → ℕ
 reads_by m instr = rows_if_done rows_printed (geometry_of m) (operations_by m) (table_in m) instr
+
+-- and in how many banks
+abbrev pub banks_read : Machine → Instruction → ℕ
+banks_read m instr = banks_printed (geometry_of m) (table_in m) instr
 
 -- how many banks an instruction may change
 abbrev pub banks_by : Machine → Instruction → ℕ

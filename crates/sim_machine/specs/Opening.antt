@@ -39,8 +39,7 @@ pub record Opened (g : Geometry) (rows : List ℕ) (chip : ChipView) : Type 0 wh
   pub counters : chip.counters ≡ all_counted (all_writes g rows) no_counts
   pub log : LogIs (all_writes g rows) chip.log
 
--- a chip that failed at its opening: it has not begun, or every bank but one stands where a first
--- part of the writes leaves it
+-- a chip that failed at its opening: it has not begun, or one of the writes failed
 abbrev pub IsLeftUnopened : Geometry → List ℕ → ChipView → Type 0
 IsLeftUnopened g rows chip =
-    NotBegun chip ⊎ StoppedWithin (all_writes g rows) (blank_banks g) chip.banks
+    NotBegun chip ⊎ StoppedWithin 0 (all_writes g rows) (blank_banks g) chip.banks

@@ -16,8 +16,8 @@ use Rattle.object_steps.specs.declared.fault.StepFault.{StepFault}
 use Rattle.object_steps.specs.declared.fault.StepFault.TheVariants.{ChipFault, WriteFault}
 use Rattle.sim_machine.specs.declared.machine.Machine.{Machine}
 use Rattle.sim_machine.specs.Machine.{reply_of, stepped, turn_by_piece, turn_in}
-use Rattle.sim_machine.specs.Machine.{events_by, queues_by, reads_by, banks_by, is_print}
-use Rattle.sim_machine.specs.Machine.{reply_line}
+use Rattle.sim_machine.specs.Machine.{events_by, queues_by, reads_by, banks_by, banks_read}
+use Rattle.sim_machine.specs.Machine.{is_print, reply_line}
 use Rattle.sim_machine.specs.Steps.{DidAndRead}
 
 -- it was done, and its line was put
@@ -28,11 +28,11 @@ pub record Stepped (old new : Machine) (number : ℕ) (instr : Instruction) (chi
   pub did : DidAndRead (events_by old (piece_of instr)) (reads_by old instr) chip chip'
   pub sent : Known (λ before after. after ≡ before ++ reply_line old number chip.banks instr)
       sink.sent sink'.sent
+  pub unfailed : sink'.faults ≡ sink.faults
 
--- the chip failed: the banks past the destination's are as before, each bank but one stands where a
--- first part of the events leaves it, each bank of a bbop but the one that failed has done the
--- first of its commands, only in a bbop's wave did banks take turns, and of no line but a print's a
--- part was put
+-- the chip failed: the banks past the destination's are as before, each bank but the failed call's
+-- stands where the events before it leave it, each other bank of a bbop has done the first of its
+-- commands, only in a bbop's wave did banks take turns, and of no line but a print's a part was put
 pub record StoppedByChip (old new : Machine) (number : ℕ) (instr : Instruction)
     (chip chip' : ChipView) (sink sink' : SinkView) : Type 0 where
   pub same : new ≡ record old { turn = turn_in new }
@@ -40,7 +40,8 @@ pub record StoppedByChip (old new : Machine) (number : ℕ) (instr : Instruction
   pub failed : FailedBelow (banks_by old instr) chip chip'
   pub stopped : is_bbop instr ≡ true
       → StoppedAmong (events_by old (piece_of instr)) (queues_by old (instr ∷ [])) chip chip'
-  pub left : StoppedWithin (events_by old (piece_of instr)) chip.banks chip'.banks
+  pub left : StoppedWithin (banks_read old instr) (events_by old (piece_of instr)) chip.banks
+      chip'.banks
   pub unsent : is_print instr ≡ false → sink' ≡ sink
   pub part : Known (AppendsPart (reply_line old number chip.banks instr)) sink.sent sink'.sent
 

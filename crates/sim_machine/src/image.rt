@@ -102,7 +102,7 @@ fn read_rows<D: Dram>(
         ≡ file.old.items ++ rows_bytes g (rows_in_banks (D.view dram.old).banks)) }
     ensures capacity { vec_capacity file.old ≤ vec_capacity file.new }
     ensures rose { OnErr result (Rose (D.view dram.old).faults (D.view dram.new).faults) }
-    ensures stopped { OnErr result (StoppedWithin [] (D.view dram.old).banks
+    ensures stopped { OnErr result (StoppedWithin g.banks [] (D.view dram.old).banks
         (D.view dram.new).banks) }
     ensures no_event { Grew (D.view dram.old).log (D.view dram.new).log [] }
 {
@@ -134,7 +134,7 @@ pub(crate) fn read_image<D: Dram>(
         ≡ file.old.items ++ rows_bytes g (rows_in_banks (D.view dram.old).banks)) }
     ensures capacity { vec_capacity file.old ≤ vec_capacity file.new }
     ensures rose { OnErr result (Rose (D.view dram.old).faults (D.view dram.new).faults) }
-    ensures stopped { OnErr result (StoppedWithin [] (D.view dram.old).banks
+    ensures stopped { OnErr result (StoppedWithin g.banks [] (D.view dram.old).banks
         (D.view dram.new).banks) }
     ensures no_event { Grew (D.view dram.old).log (D.view dram.new).log [] }
 {

@@ -22,8 +22,8 @@ ghost use Rattle.machine_model.specs.Script.{is_bbop};
 ghost use Rattle.uprog_ctl.specs.Waves.{StoppedAmong};
 ghost use Rattle.object_steps.specs.Lines.{DidReadAtMost};
 ghost use Rattle.object_steps.specs.Objects.{LiesOn, RisesAtMost};
-ghost use Rattle.sim_machine.specs.Machine.{GoesOn, IsLaidOut, banks_by, events_by, file_of};
-ghost use Rattle.sim_machine.specs.Machine.{is_print, reply_line, line_shown, lines_of};
+ghost use Rattle.sim_machine.specs.Machine.{GoesOn, IsLaidOut, banks_by, banks_read, events_by};
+ghost use Rattle.sim_machine.specs.Machine.{file_of, is_print, reply_line, line_shown, lines_of};
 ghost use Rattle.sim_machine.specs.Machine.{geometry_of, operations_by, queues_by};
 ghost use Rattle.sim_machine.specs.Machine.{reads_by, reply_of, stepped, table_in};
 ghost use Rattle.sim_machine.specs.Machine.{turn_by_piece, turn_in};
@@ -153,6 +153,7 @@ impl<'a> Machine<'a> {
         ensures borrow { D.borrow dram.new ≡ D.borrow dram.old }
         ensures kept { Kept (D.view dram.old) (D.view dram.new) }
         ensures sink_faults { (S.view out.old).faults ≤ (S.view out.new).faults }
+        ensures unfailed { OnOk result ((S.view out.new).faults ≡ (S.view out.old).faults) }
         ensures same { self.new ≡ record self.old { turn = turn_in self.new } }
         ensures laid { IsLaidOut self.old }
         ensures replies { IfOk result (λ replies. replies.items
@@ -219,6 +220,7 @@ impl<'a> Machine<'a> {
         ensures borrow { D.borrow dram.new ≡ D.borrow dram.old }
         ensures kept { Kept (D.view dram.old) (D.view dram.new) }
         ensures sink_faults { (S.view out.old).faults ≤ (S.view out.new).faults }
+        ensures unfailed { OnOk result ((S.view out.new).faults ≡ (S.view out.old).faults) }
         ensures goes_on { GoesOn self.old self.new }
         ensures laid { IsLaidOut self.old }
         ensures reply { IfOk result (λ reply. reply ≡ reply_of self.old (view_of instr.now)) }
@@ -232,9 +234,9 @@ impl<'a> Machine<'a> {
             (S.view out.old).sent (S.view out.new).sent) }
 
         // After a fault the table is as before. Where the chip fails, the banks past those of the
-        // destination are as before, each bank but one stands where a first part of the events
-        // leaves it, each bank of a bbop but the one that failed where a prefix of its queue does,
-        // and nothing is put but of a print, whose line goes out while its rows are read.
+        // destination are as before, each bank but the failed call's stands where the events before
+        // it leave it, each other bank of a bbop where a prefix of its queue does, and nothing is
+        // put but of a print, whose line goes out while its rows are read.
         ensures same_table { OnErr result (self.new ≡ record self.old { turn = turn_in self.new }) }
         ensures chip_fault { IsErrOf result StepFault.ChipFault
             → FailedBelow (banks_by self.old (view_of instr.now)) (D.view dram.old)
@@ -244,8 +246,9 @@ impl<'a> Machine<'a> {
             → StoppedAmong (events_by self.old (piece_of (view_of instr.now)))
             (queues_by self.old (view_of instr.now ∷ [])) (D.view dram.old) (D.view dram.new) }
         ensures left { IsErrOf result StepFault.ChipFault
-            → StoppedWithin (events_by self.old (piece_of (view_of instr.now)))
-            (D.view dram.old).banks (D.view dram.new).banks }
+            → StoppedWithin (banks_read self.old (view_of instr.now))
+            (events_by self.old (piece_of (view_of instr.now))) (D.view dram.old).banks
+            (D.view dram.new).banks }
         ensures unsent { IsErrOf result StepFault.ChipFault
             → is_print (view_of instr.now) ≡ false → S.view out.new ≡ S.view out.old }
         ensures same_turn { IsErrOf result StepFault.ChipFault
@@ -300,6 +303,7 @@ impl<'a> Machine<'a> {
         ensures borrow { D.borrow dram.new ≡ D.borrow dram.old }
         ensures kept { Kept (D.view dram.old) (D.view dram.new) }
         ensures sink_faults { (S.view out.old).faults ≤ (S.view out.new).faults }
+        ensures unfailed { OnOk result ((S.view out.new).faults ≡ (S.view out.old).faults) }
         ensures same { self.new ≡ self.old }
         ensures reply { IfOk result (λ reply. reply ≡ reply_of self.old (Print place.now)) }
         ensures did { OnOk result (DidRead (reads_by self.old (Print place.now))
@@ -318,7 +322,8 @@ impl<'a> Machine<'a> {
             → FailedBelow (banks_by self.old (Print place.now)) (D.view dram.old)
             (D.view dram.new) }
         ensures left { IsErrOf result StepFault.ChipFault
-            → StoppedWithin [] (D.view dram.old).banks (D.view dram.new).banks }
+            → StoppedWithin (banks_read self.old (Print place.now)) [] (D.view dram.old).banks
+            (D.view dram.new).banks }
         ensures no_event { Grew (D.view dram.old).log (D.view dram.new).log [] }
         ensures read { IsErrOf result StepFault.WriteFault
             → DidReadAtMost (reads_by self.old (Print place.now)) (D.view dram.old)
@@ -355,10 +360,10 @@ impl<'a> Machine<'a> {
             (D.view dram.new).counters) }
 
         // Where the chip fails, the banks past those of the operand are as before, and each bank
-        // but one stands where a first part of the writes leaves it.
+        // but the failed write's stands where the writes before it leave it.
         ensures failed { OnErr result (FailedBelow (banks_by self.old (Load place.now values.now))
             (D.view dram.old) (D.view dram.new)) }
-        ensures left { OnErr result (StoppedWithin
+        ensures left { OnErr result (StoppedWithin 0
             (events_by self.old (Alone (Load place.now values.now))) (D.view dram.old).banks
             (D.view dram.new).banks) }
     {
@@ -386,8 +391,8 @@ impl<'a> Machine<'a> {
             (table_in self.old) (rows_in_banks (D.view dram.old).banks)) }
         ensures same { self.new ≡ record self.old { file = file_of self.new } }
         ensures failed { OnErr result (Rose (D.view dram.old).faults (D.view dram.new).faults) }
-        ensures left { OnErr result (StoppedWithin [] (D.view dram.old).banks
-            (D.view dram.new).banks) }
+        ensures left { OnErr result (StoppedWithin (geometry_of self.old).banks []
+            (D.view dram.old).banks (D.view dram.new).banks) }
         ensures no_event { Grew (D.view dram.old).log (D.view dram.new).log [] }
     {
         self.file.clear();
@@ -409,8 +414,8 @@ impl<'a> Machine<'a> {
             table.now.pairs (rows_in_banks (D.view dram.old).banks)) }
         ensures same { self.new ≡ record self.old { file = file_of self.new } }
         ensures failed { OnErr result (Rose (D.view dram.old).faults (D.view dram.new).faults) }
-        ensures left { OnErr result (StoppedWithin [] (D.view dram.old).banks
-            (D.view dram.new).banks) }
+        ensures left { OnErr result (StoppedWithin (geometry_of self.old).banks []
+            (D.view dram.old).banks (D.view dram.new).banks) }
         ensures no_event { Grew (D.view dram.old).log (D.view dram.new).log [] }
     {
         prove!(usize::from(table.len()) <= OBJECTS_MAX);
@@ -435,6 +440,7 @@ impl<'a> Machine<'a> {
     ) -> Result<(), Failed>
         requires begun { HasBegun (D.view dram.now) }
         ensures faults { (S.view out.old).faults ≤ (S.view out.new).faults }
+        ensures unfailed { OnOk result ((S.view out.new).faults ≡ (S.view out.old).faults) }
         ensures sent { OnOk result (Known (λ before after. after
             ≡ before ++ total_line (D.view dram.now).counters refused)
             (S.view out.old).sent (S.view out.new).sent) }

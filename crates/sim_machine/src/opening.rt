@@ -85,6 +85,7 @@ fn write_bank<D: Dram>(
     ensures writes { OnOk result ((D.view dram.new).counters.writes
         ≡ (D.view dram.old).counters.writes + g.rows) }
     ensures failed { OnErr result (FailedIn bank (D.view dram.old) (D.view dram.new)) }
+    ensures some { OnErr result (0 < g.rows) }
 {
     for row in 0..g.rows {
         write_row(dram, bank, row, row_bytes(g, rows, bank, row), stage)?;
@@ -111,7 +112,7 @@ fn write_rows<D: Dram>(
     ensures stage { length stage.new ≡ length stage.old }
     ensures did { OnOk result (Did (all_writes g rows.now) (D.view dram.old) (D.view dram.new)) }
     ensures rose { OnErr result (Rose (D.view dram.old).faults (D.view dram.new).faults) }
-    ensures stopped { OnErr result (StoppedWithin (all_writes g rows.now) (D.view dram.old).banks
+    ensures stopped { OnErr result (StoppedWithin 0 (all_writes g rows.now) (D.view dram.old).banks
         (D.view dram.new).banks) }
 {
     for bank in 0..g.banks {

@@ -116,6 +116,7 @@ fn reply_line(number: u64, reply: Reply) -> Line
 /// Puts the line of a reply.
 fn put_line<S: Sink>(number: u64, reply: Reply, out: &mut S) -> Result<(), Failed>
     ensures faults { (S.view out.old).faults ≤ (S.view out.new).faults }
+    ensures unfailed { OnOk result ((S.view out.new).faults ≡ (S.view out.old).faults) }
     ensures sent { OnOk result (Known (λ before after. after
         ≡ before ++ line number (Said.Answered reply)) (S.view out.old).sent
         (S.view out.new).sent) }
@@ -130,6 +131,7 @@ fn put_line<S: Sink>(number: u64, reply: Reply, out: &mut S) -> Result<(), Faile
 /// Puts the line of one instruction's reply.
 pub fn put_reply<S: Sink>(number: u32, reply: Reply, out: &mut S) -> Result<(), Failed>
     ensures faults { (S.view out.old).faults ≤ (S.view out.new).faults }
+    ensures unfailed { OnOk result ((S.view out.new).faults ≡ (S.view out.old).faults) }
     ensures sent { OnOk result (Known (λ before after. after
         ≡ before ++ line number (Said.Answered reply)) (S.view out.old).sent
         (S.view out.new).sent) }
@@ -144,6 +146,7 @@ pub fn put_reply<S: Sink>(number: u32, reply: Reply, out: &mut S) -> Result<(), 
 pub(crate) fn put_lines<S: Sink>(number: u32, replies: &[Reply], out: &mut S) -> Result<(), Failed>
     requires { length replies.now ≤ 16 }
     ensures faults { (S.view out.old).faults ≤ (S.view out.new).faults }
+    ensures unfailed { OnOk result ((S.view out.new).faults ≡ (S.view out.old).faults) }
     ensures sent { OnOk result (Known (λ before after. after
         ≡ before ++ lines number (map Said.Answered replies.now)) (S.view out.old).sent
         (S.view out.new).sent) }

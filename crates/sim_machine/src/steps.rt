@@ -133,7 +133,7 @@ impl<'a> Machine<'a> {
             (D.view dram.new)) }
         ensures failed { OnErr result (FailedBelow (banks_by self.old (view_of instr.now))
             (D.view dram.old) (D.view dram.new)) }
-        ensures left { OnErr result (StoppedWithin (events_alone (geometry_of self.old)
+        ensures left { OnErr result (StoppedWithin 0 (events_alone (geometry_of self.old)
             (operations_by self.old) (table_in self.old) (view_of instr.now))
             (D.view dram.old).banks (D.view dram.new).banks) }
         ensures same_turn { OnErr result (turn_in self.new ≡ turn_in self.old) }

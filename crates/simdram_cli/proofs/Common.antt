@@ -21,7 +21,7 @@ pub use Rattle.cli_model.specs.Runs.{EndsBy, Runs}
 pub use Rattle.cli_model.specs.Stands.{files_after, sent_by}
 pub use Rattle.cli_model.specs.Steps.{CannotWrite, ChipFailed, Done, End, Goes, LoadFails, NoMemory}
 pub use Rattle.cli_model.specs.Steps.{Put, PutFailed, Reason, Refusal, Refused, Step, Stopped}
-pub use Rattle.cli_model.specs.Steps.{Store, Stored, Take, Unstored, Use, loading}
+pub use Rattle.cli_model.specs.Steps.{Store, Stored, Take, Unstored, Use, line_steps, loading}
 pub use Rattle.cli_model.specs.Waves.{ChipUse, IsLeftBy, doing}
 pub use Rattle.cli_model.specs.World.{World, with_file, world}
 pub use Rattle.cmd_trace.specs.Tape.{empty_log, recorded}
@@ -39,7 +39,7 @@ pub use Rattle.dram_model.specs.declared.geometry.Geometry.{Geometry}
 pub use Rattle.faults.specs.Counts.{Rose}
 pub use Rattle.file_fields.proofs.Padded.{name_size}
 pub use Rattle.file_fields.specs.Fields.{name_bytes}
-pub use Rattle.guard_job.specs.Steps.{guarded_steps, line_steps}
+pub use Rattle.guard_job.specs.Steps.{guarded_steps}
 pub use Rattle.guard_model.specs.FlipText.{flips_of}
 pub use Rattle.guard_model.specs.Guarded.{guarded_replies, guarded_rows, guarded_said_by}
 pub use Rattle.guard_model.specs.Guarded.{guarded_table, guarded_table_at_end, guarded_turn, mended}

@@ -25,17 +25,15 @@ use Rattle.guard_model.specs.Survival.{HoldsWhole, Spot}
 use Rattle.guard_model.proofs.Adding.{accepted_has_names}
 use Rattle.guard_model.proofs.Whole.{guarded_text, triples_kept}
 use Rattle.simdram_cli.specs.declared.words.GuardNames.{GuardNames}
-use Rattle.simdram_cli.specs.Flips.{flips_in, in_triples}
-use Rattle.simdram_cli.specs.Flips.{table_refusal, name_refusal, unless_some, with_short_names}
-use Rattle.simdram_cli.specs.Guard.{GuardDoneOn, GuardJob}
-use Rattle.simdram_cli.specs.Guard.{ElementsRight, Guarded, GuardedRows, GuardedWords, guard_job}
-use Rattle.simdram_cli.specs.Guard.{image_at_last, last_steps, lone_by, lone_first}
-use Rattle.simdram_cli.specs.Guard.{operations_by, refused_of, replies_by, replies_of, said_of}
-use Rattle.simdram_cli.specs.Guard.{table_at_last, tally_of, votes_of, whole_at_last, whole_in}
-use Rattle.simdram_cli.specs.Guard.{work_steps}
+use Rattle.simdram_cli.specs.Flips.{flips_in, in_triples, table_refusal, name_refusal, unless_some}
+use Rattle.simdram_cli.specs.Flips.{with_short_names}
+use Rattle.simdram_cli.specs.Guard.{GuardDoneOn, GuardJob, ElementsRight, Guarded, GuardedRows}
+use Rattle.simdram_cli.specs.Guard.{GuardedWords, guard_job, image_at_last, last_steps, lone_by}
+use Rattle.simdram_cli.specs.Guard.{lone_first, operations_by, refused_of, replies_by, replies_of}
+use Rattle.simdram_cli.specs.Guard.{said_of, table_at_last, tally_of, votes_of, whole_at_last}
+use Rattle.simdram_cli.specs.Guard.{whole_in, work_steps, guard_plan}
 use Rattle.simdram_cli.specs.Headline.{IsNoBadWalk, read_as}
 use Rattle.simdram_cli.specs.Inputs.{image_of, script_in, script_or_refusal}
-use Rattle.simdram_cli.specs.Guard.{guard_plan}
 use Rattle.simdram_cli.proofs.OpsPlans.{spells_at}
 use Rattle.simdram_cli.proofs.Guarding.{Apart, apart}
 use Rattle.simdram_cli.proofs.NoWalks.{AllEnd, all_end, no_walks}
@@ -46,7 +44,7 @@ use Rattle.simdram_cli.specs.declared.words.Command.TheVariants.{Guard}
 
 -- what the steps send and store
 
-line_sent : (on : Option ChipUse) (prints : Bool) (bytes : List ℕ) (rest more : List Step)
+line_sent : (on : ChipUse) (prints : Bool) (bytes : List ℕ) (rest more : List Step)
     → sent_by ((line_steps on prints bytes ++ rest) ++ more) ≡ bytes ++ sent_by (rest ++ more)
 line_sent on true bytes rest more = refl
 line_sent on false bytes rest more = refl
@@ -68,7 +66,7 @@ script_sent g o flips k turn table banks (instr ∷ script) more =
     ∙ sym (append_assoc bytes (lines (k + 1)
     (guarded_said_in_rows g o flips (k + 1) next rows script)) (sent_by more))
 
-line_files : (on : Option ChipUse) (prints : Bool) (bytes : List ℕ) (rest more : List Step)
+line_files : (on : ChipUse) (prints : Bool) (bytes : List ℕ) (rest more : List Step)
     (f : Files) → files_after ((line_steps on prints bytes ++ rest) ++ more) f
     ≡ files_after (rest ++ more) f
 line_files on true bytes rest more f = refl

@@ -5,15 +5,13 @@ use Rattle.simdram_cli.proofs.Common.{ImageFault, ScriptFault, Instruction, Ahea
 use Rattle.simdram_cli.proofs.Common.{opened, Routines, routines_in, line, Flip, FlipsFault}
 use Rattle.simdram_cli.proofs.Common.{guarded_rows, guarded_said_by, guarded_table, guarded_turn}
 use Rattle.simdram_cli.proofs.Common.{mended, first_long_name, first_stranger, guarded_steps}
-use Rattle.simdram_cli.proofs.Common.{line_steps, is_print, ChipUse, doing, OfSteps, of_more}
+use Rattle.simdram_cli.proofs.Common.{line_steps, is_print, ChipUse, OfSteps, of_more}
 use Rattle.guard_model.specs.Flips.{due}
 use Rattle.guard_model.specs.Guarded.{guarded_events}
 use Rattle.guard_job.specs.Steps.{instr_steps}
-use Rattle.simdram_cli.specs.Flips.{flips_or_refusal}
-use Rattle.simdram_cli.specs.Flips.{in_triples, name_refusal, table_refusal}
+use Rattle.simdram_cli.specs.Flips.{flips_or_refusal, in_triples, name_refusal, table_refusal}
 use Rattle.simdram_cli.specs.Flips.{unless_some, with_short_names}
-use Rattle.simdram_cli.specs.Guard.{GuardJob}
-use Rattle.simdram_cli.specs.Guard.{last_steps}
+use Rattle.simdram_cli.specs.Guard.{GuardJob, last_steps}
 use Rattle.simdram_cli.specs.Inputs.{image_or_refusal, script_or_refusal}
 
 named_of : (P : ℕ → Type 0) (o : Option ℕ) (script : List Instruction) → P 17
@@ -41,7 +39,7 @@ pub flips_are : (P : ℕ → Type 0) (read : Result (List Flip) FlipsFault) → 
 flips_are P (Ok flips) eighteen = tt
 flips_are P (Err fault) eighteen = eighteen
 
-line_are : (P : ℕ → Type 0) (on : Option ChipUse) (prints : Bool) (bytes : List ℕ) → P 3 → P 9
+line_are : (P : ℕ → Type 0) (on : ChipUse) (prints : Bool) (bytes : List ℕ) → P 3 → P 9
     → OfSteps P (line_steps on prints bytes)
 line_are P on true bytes three nine = ((three, nine), tt)
 line_are P on false bytes three nine = (nine, (three, tt))
@@ -53,13 +51,12 @@ script_are P g o flips k turn table banks [] three nine = (nine, tt)
 script_are P g o flips k turn table banks (instr ∷ script) three nine =
     let now = mended g flips k table banks in
     let bytes = line k (guarded_said_by g o table now instr) in
-    let on = doing now (guarded_events g o turn table instr) in
     let after = guarded_turn g o turn table instr in
     let next = guarded_table g o table instr in
     let rows = guarded_rows g o table now instr in
     of_more P (instr_steps g o (due k flips) k turn table banks instr)
     (guarded_steps g o flips (k + 1) after next rows script)
-    (nine, line_are P on (is_print instr) bytes three nine)
+    (nine, line_are P _ (is_print instr) bytes three nine)
     (script_are P g o flips (k + 1) after next rows script three nine)
 
 -- the steps after the opening

@@ -32,33 +32,28 @@ use Rattle.guard_job.specs.Events.{run_events}
 use Rattle.guard_job.specs.Steps.{end_by}
 use Rattle.cli_model.specs.Steps.{CannotRead, TooLong}
 use Rattle.cli_model.specs.Reads.{ReadAs}
-use Rattle.object_alloc.specs.declared.fault.ImageNo.TheVariants as no
-use Rattle.object_steps.specs.declared.fault.StepFault.TheVariants as step_fault
 use Rattle.simdram_cli.specs.declared.words.GuardNames.{GuardNames}
 use Rattle.simdram_cli.specs.declared.words.TheConstants.{FLIPS_MAX, IMAGE_MAX, SCRIPT_MAX}
 use Rattle.simdram_cli.specs.declared.stop.Stop.{Stop}
 use Rattle.simdram_cli.specs.Flips.{flips_in, flips_or_refusal, flips_refusal, guarded_image_of}
 use Rattle.simdram_cli.specs.Flips.{guarded_script_in, in_triples, name_refusal, table_refusal}
 use Rattle.simdram_cli.specs.Flips.{unless_some, with_short_names}
-use Rattle.simdram_cli.specs.Guard.{GuardDone}
-use Rattle.simdram_cli.specs.Guard.{GuardJob}
-use Rattle.simdram_cli.specs.Guard.{banks_at_last, events_of}
-use Rattle.simdram_cli.specs.Guard.{image_at_last}
-use Rattle.simdram_cli.specs.Guard.{last_steps, refused_of}
-use Rattle.simdram_cli.specs.Guard.{table_at_last, tally_of, votes_of, work_steps}
-use Rattle.simdram_cli.specs.Inputs.{image_found, image_or_refusal, image_refusal}
-use Rattle.simdram_cli.specs.Inputs.{script_in}
-use Rattle.simdram_cli.specs.Guard.{GuardDoneOn, guard_work_plan}
+use Rattle.simdram_cli.specs.Guard.{GuardDone, GuardJob, banks_at_last, events_of, image_at_last}
+use Rattle.simdram_cli.specs.Guard.{last_steps, refused_of, table_at_last, tally_of, votes_of}
+use Rattle.simdram_cli.specs.Guard.{work_steps, GuardDoneOn, guard_work_plan}
+use Rattle.simdram_cli.specs.Inputs.{image_found, image_or_refusal, image_refusal, script_in}
 use Rattle.simdram_cli.specs.Plans.{script_said}
 use Rattle.simdram_cli.specs.Job.{done_status, opened_counters, opening, reading}
 use Rattle.simdram_cli.specs.Stops.{end_of, fault_reason, image_reason, reason_of}
 use Rattle.simdram_cli.specs.Words.{all_differ, guard_apart}
 use Rattle.simdram_cli.specs.Works.{OpenedOn}
-use Rattle.simdram_cli.proofs.Joins.{loaded_text, no_chip}
-use Rattle.simdram_cli.proofs.Joins.{no_sink}
+use Rattle.simdram_cli.proofs.Joins.{loaded_text, no_chip, no_sink}
 use Rattle.simdram_cli.proofs.Running.{not_true, other_way}
 use Rattle.simdram_cli.proofs.Scripts.{lines_long}
-use Rattle.simdram_cli.proofs.Stores.{sent, used}
+use Rattle.simdram_cli.proofs.Stores.{sent, used, put}
+use Rattle.cli_model.specs.Waves.{banks_after}
+use Rattle.object_alloc.specs.declared.fault.ImageNo.TheVariants as no
+use Rattle.object_steps.specs.declared.fault.StepFault.TheVariants as step_fault
 
 -- SCRIPT
 
@@ -255,28 +250,33 @@ module _ (job : GuardJob) (shape : Geometry) (table : List Named) (now : ChipVie
 
   -- the steps at the end are those of the job
   pub last_are : (name : List ℕ) (end : End) (a b : World)
-      → Goes (reading now.banks ∷ Store name (image_bytes shape table (rows_in_banks now.banks))
+      → Goes (reading shape now.banks ∷ Store name (image_bytes shape table (rows_in_banks now.banks))
       ∷ Put (vote_line votes (length job.flips))
       ∷ Put (total_line (with_reads (shape.banks * shape.rows) now.counters) refused)
       ∷ []) end a b
       → Goes (last_steps name job) end a b
   last_are name end a b g =
       subst (λ (steps : List Step). Goes steps end a b)
-      (ap (λ (bytes : List ℕ). reading now.banks ∷ Store name bytes
+      (ap (λ (s : Geometry). reading s now.banks ∷ Store name
+      (image_bytes shape table (rows_in_banks now.banks))
+      ∷ Put (vote_line votes (length job.flips))
+      ∷ Put (total_line (with_reads (shape.banks * shape.rows) now.counters) refused)
+      ∷ []) w.shape_is
+      ∙ ap (λ (bytes : List ℕ). reading job.image.geometry now.banks ∷ Store name bytes
       ∷ Put (vote_line votes (length job.flips))
       ∷ Put (total_line (with_reads (shape.banks * shape.rows) now.counters) refused)
       ∷ []) own_image
-      ∙ ap (λ (n : ℕ). reading now.banks ∷ Store name (image_at_last job)
+      ∙ ap (λ (n : ℕ). reading job.image.geometry now.banks ∷ Store name (image_at_last job)
       ∷ Put (vote_line n (length job.flips))
       ∷ Put (total_line (with_reads (shape.banks * shape.rows) now.counters) refused)
       ∷ []) w.votes_is
-      ∙ ap (λ (k : Counters). reading now.banks ∷ Store name (image_at_last job)
+      ∙ ap (λ (k : Counters). reading job.image.geometry now.banks ∷ Store name (image_at_last job)
       ∷ Put (vote_line (votes_of job) (length job.flips)) ∷ Put (total_line k refused) ∷ [])
       own_tally
-      ∙ ap (λ (n : ℕ). reading now.banks ∷ Store name (image_at_last job)
+      ∙ ap (λ (n : ℕ). reading job.image.geometry now.banks ∷ Store name (image_at_last job)
       ∷ Put (vote_line (votes_of job) (length job.flips)) ∷ Put (total_line (tally_of job) n) ∷ [])
       w.refused_is
-      ∙ ap (λ (b : Banks). reading b ∷ Store name (image_at_last job)
+      ∙ ap (λ (b : Banks). reading job.image.geometry b ∷ Store name (image_at_last job)
       ∷ Put (vote_line (votes_of job) (length job.flips))
       ∷ Put (total_line (tally_of job) (refused_of job)) ∷ []) w.banks) g
 
@@ -340,45 +340,45 @@ worked_on name job end a b c d g h k =
 -- the end: the image is stored, and two lines are sent
 
 pub puts_half : (first second : List ℕ) (files : FolderView) (s t u : SinkView) (chip : ChipView)
-    → Known (λ before after. after ≡ before ++ first) s.sent t.sent → s.faults ≤ t.faults
+    → Known (λ before after. after ≡ before ++ first) s.sent t.sent → t.faults ≡ s.faults
     → Known (AppendsPart second) t.sent u.sent → t.faults ≤ u.faults → Rose t.faults u.faults
     → Goes (Put first ∷ Put second ∷ []) (Stopped PutFailed) (world files s chip)
     (world files u chip)
 puts_half first second files s t u chip p n q m r = inl (
   world files t chip,
   (
-    sent (λ before after. after ≡ before ++ first) files s t chip p n,
+    put first files s t chip p n,
     inr (refl, sent (AppendsPart second) files t u chip q m, r),
   ),
 )
 
 pub puts_done : (first second : List ℕ) (files : FolderView) (s t u : SinkView) (chip : ChipView)
-    → Known (λ before after. after ≡ before ++ first) s.sent t.sent → s.faults ≤ t.faults
-    → Known (λ before after. after ≡ before ++ second) t.sent u.sent → t.faults ≤ u.faults
+    → Known (λ before after. after ≡ before ++ first) s.sent t.sent → t.faults ≡ s.faults
+    → Known (λ before after. after ≡ before ++ second) t.sent u.sent → u.faults ≡ t.faults
     → Goes (Put first ∷ Put second ∷ []) Done (world files s chip) (world files u chip)
 puts_done first second files s t u chip p n q m = inl (
   world files t chip,
   (
-    sent (λ before after. after ≡ before ++ first) files s t chip p n,
+    put first files s t chip p n,
     inl (
       world files u chip,
-      (sent (λ before after. after ≡ before ++ second) files t u chip q m, refl),
+      (put second files t u chip q m, refl),
     ),
   ),
 )
 
-pub not_stored : (on : Option ChipUse) (name bytes : List ℕ) (steps : List Step) (f g : FolderView) (s : SinkView)
-    (a b : ChipView) → b.faults ≡ a.faults → Unstored name (world f s b) (world g s b)
+pub not_stored : (on : ChipUse) (name bytes : List ℕ) (steps : List Step) (f g : FolderView)
+    (s : SinkView) (a b : ChipView) → b.faults ≡ a.faults → b.banks ≡ banks_after on → Unstored name (world f s b) (world g s b)
     → Goes (Use on ∷ Store name bytes ∷ steps) (Stopped (CannotWrite name)) (world f s a) (world g s b)
-not_stored on name bytes steps f g s a b l u =
-    inl (world f s b, (used f s a b l, inr (refl, u)))
+not_stored on name bytes steps f g s a b l left u =
+    inl (world f s b, (used _ f s a b l left, inr (refl, u)))
 
-pub stored_then : (on : Option ChipUse) (name bytes : List ℕ) (steps : List Step) (end : End) (f g : FolderView)
-    (s : SinkView) (a b : ChipView) (w : World) → b.faults ≡ a.faults
-    → Stored name bytes (world f s b) (world g s b) → Goes steps end (world g s b) w
+pub stored_then : (on : ChipUse) (name bytes : List ℕ) (steps : List Step) (end : End)
+    (f g : FolderView) (s : SinkView) (a b : ChipView) (w : World) → b.faults ≡ a.faults
+    → b.banks ≡ banks_after on → Stored name bytes (world f s b) (world g s b) → Goes steps end (world g s b) w
     → Goes (Use on ∷ Store name bytes ∷ steps) end (world f s a) w
-stored_then on name bytes steps end f g s a b w l u h =
-    inl (world f s b, (used f s a b l, inl (world g s b, (u, h))))
+stored_then on name bytes steps end f g s a b w l left u h =
+    inl (world f s b, (used _ f s a b l left, inl (world g s b, (u, h))))
 
 -- FLIPS, and the job that it makes
 

@@ -85,9 +85,12 @@ pub first_are : (out : List ℕ) (program : Program) (script : List Instruction)
 first_are out program script i m start s =
     ap (λ (xs : List Step). xs ++ (reading_on m start.banks script ∷ Store out (image_on m start.banks script) ∷ []))
     (own_lines program script i m start.banks s.machine_is s.banks)
-    ∙ ap (λ (banks : Banks). script_steps program script i ++ (reading banks
+    ∙ ap (λ (banks : Banks). script_steps program script i ++ (reading (geometry_of m) banks
     ∷ Store out (image_on m start.banks script) ∷ []))
     (own_banks program script i m start s)
+    ∙ ap (λ (g : Geometry). script_steps program script i ++ (reading g (banks_at_end i.geometry
+    (routines_in program) i.table (opened i) script) ∷ Store out (image_on m start.banks script)
+    ∷ [])) (ap geometry_of s.machine_is)
     ∙ ap (λ (bytes : List ℕ). script_steps program script i
     ++ (reading_by program script i ∷ Store out bytes ∷ []))
     (own_image program script i m start s)

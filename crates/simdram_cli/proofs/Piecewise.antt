@@ -8,7 +8,7 @@ use Rattle.simdram_cli.proofs.Common.{Write, ChipView, with_reads, all_counted-a
 use Rattle.simdram_cli.proofs.Common.{Named, Instr, Instruction, view_of, IsPlain, Routines}
 use Rattle.simdram_cli.proofs.Common.{is_bbop, banks_at_end, table_at_end, AreBbops, Piece, Wave}
 use Rattle.simdram_cli.proofs.Common.{Alone, instrs_in, pieces, Turn, piece_events, turn_after}
-use Rattle.simdram_cli.proofs.Common.{ChipUse, doing, Said, said_by, said_in_rows, line, lines}
+use Rattle.simdram_cli.proofs.Common.{ChipUse, Said, said_by, said_in_rows, line, lines}
 use Rattle.simdram_cli.proofs.Common.{table_after, scripts_go_on, all_parted, World, End, Done}
 use Rattle.simdram_cli.proofs.Common.{Stopped, Reason, Goes, goes_on, stops, sent_by, is_print}
 use Rattle.simdram_cli.proofs.Common.{DidAndRead, sent_append}
@@ -23,8 +23,9 @@ use Rattle.machine_model.specs.Steps.{banks_after}
 use Rattle.machine_model.proofs.Cut.{alone_cut, wave_cut, wave_is_piece}
 use Rattle.machine_model.proofs.Parts.{lines_go_on}
 use Rattle.machine_model.proofs.Pieces.{pieces_are_script}
-use Rattle.simdram_cli.specs.Job.{put_lines, instr_steps, piece_steps, pieces_steps}
+use Rattle.simdram_cli.specs.Job.{put_lines, piece_steps, pieces_steps}
 use Rattle.simdram_cli.specs.Works.{next_piece}
+use Rattle.cli_model.specs.Steps.{line_steps}
 
 least_some : (n : ℕ) → 1 ≤ n → 0 < min 16 n
 least_some n some = elim (cases_lt 16 n) [
@@ -216,8 +217,8 @@ sent_lines number [] = refl
 sent_lines number (said ∷ rest) =
     ap (λ w. line number said ++ w) (sent_lines (number + 1) rest)
 
-sent_instr : (on : Option ChipUse) (prints : Bool) (bytes : List ℕ)
-    → sent_by (instr_steps on prints bytes) ≡ bytes
+sent_instr : (on : ChipUse) (prints : Bool) (bytes : List ℕ)
+    → sent_by (line_steps on prints bytes) ≡ bytes
 sent_instr on true bytes = append-nil bytes
 sent_instr on false bytes = append-nil bytes
 
@@ -228,7 +229,7 @@ sent_piece g o turn table banks number (Wave wave) =
     sent_lines number (said_in_rows g o table banks wave)
 sent_piece g o turn table banks number (Alone instr) =
     let bytes = line number (said_by g o table banks instr) in
-    sent_instr (doing banks (piece_events g o turn table (Alone instr))) (is_print instr) bytes
+    sent_instr _ (is_print instr) bytes
     ∙ sym (append-nil bytes)
 
 said_count : (g : Geometry) (o : Routines) (table : List Named) (banks : Banks)

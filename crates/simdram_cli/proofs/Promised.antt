@@ -6,18 +6,18 @@ use Rattle.simdram_cli.proofs.Common.{Instruction, IsPlain, Program, Routines, r
 use Rattle.simdram_cli.proofs.Common.{opened, Turn, Ahead, Piece, Wave, Alone, instrs_in}
 use Rattle.simdram_cli.proofs.Common.{piece_events, pieces, turn_after, Said, line, lines, said_by}
 use Rattle.simdram_cli.proofs.Common.{said_in_rows, total_line, banks_at_end, table_at_end}
-use Rattle.simdram_cli.proofs.Common.{with_file, ChipUse, doing, Store, Put, files_after, sent_by}
+use Rattle.simdram_cli.proofs.Common.{with_file, ChipUse, Store, Put, files_after, sent_by}
 use Rattle.simdram_cli.proofs.Common.{is_print, at_other, bytes_differ, files_append, sent_append}
 use Rattle.std.specs.Prelude.{Option}
-use Rattle.simdram_cli.specs.Job.{done_status, image_by, instr_steps}
-use Rattle.simdram_cli.specs.Job.{piece_steps, pieces_steps, put_lines, refused_by, said_in}
-use Rattle.simdram_cli.specs.Job.{reading_by, script_steps, tally_by, work_steps}
+use Rattle.simdram_cli.specs.Job.{done_status, image_by, piece_steps, pieces_steps, put_lines}
+use Rattle.simdram_cli.specs.Job.{refused_by, said_in, reading_by, script_steps, tally_by}
+use Rattle.simdram_cli.specs.Job.{work_steps}
 use Rattle.simdram_cli.specs.Works.{WorkDone}
 use Rattle.simdram_cli.specs.Headline.{RepliesExact}
 use Rattle.simdram_cli.proofs.Piecewise.{sent_script}
 use Rattle.simdram_cli.proofs.Tallies.{some_words}
-use Rattle.simdram_cli.proofs.Promises.{job_of, IsDone}
-use Rattle.simdram_cli.proofs.Promises.{refusals_are, no_bad_walks}
+use Rattle.simdram_cli.proofs.Promises.{job_of, IsDone, refusals_are, no_bad_walks}
+use Rattle.cli_model.specs.Steps.{line_steps}
 
 -- the files that a script's steps leave
 
@@ -26,8 +26,8 @@ lines_files : (number : ℕ) (said : List Said) (f : Files)
 lines_files number [] f = refl
 lines_files number (s ∷ said) f = lines_files (number + 1) said f
 
-instr_files : (on : Option ChipUse) (prints : Bool) (bytes : List ℕ) (f : Files)
-    → files_after (instr_steps on prints bytes) f ≡ f
+instr_files : (on : ChipUse) (prints : Bool) (bytes : List ℕ) (f : Files)
+    → files_after (line_steps on prints bytes) f ≡ f
 instr_files on true bytes f = refl
 instr_files on false bytes f = refl
 
@@ -37,7 +37,7 @@ piece_files : (g : Geometry) (o : Routines) (turn : Turn) (table : List Named) (
 piece_files g o turn table banks number (Wave wave) f =
     lines_files number (said_in_rows g o table banks wave) f
 piece_files g o turn table banks number (Alone instr) f =
-    instr_files (doing banks (piece_events g o turn table (Alone instr))) (is_print instr)
+    instr_files _ (is_print instr)
     (line number (said_by g o table banks instr)) f
 
 pub pieces_files : (g : Geometry) (o : Routines) (turn : Turn) (table : List Named) (banks : Banks)

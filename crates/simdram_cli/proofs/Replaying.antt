@@ -25,8 +25,6 @@ use Rattle.trace_model.specs.Replay.{replayed}
 use Rattle.trace_model.specs.Reading.{TraceFault, trace_in as trace_read}
 use Rattle.cmd_trace.specs.declared.fault.TraceNo.{TraceNo}
 use Rattle.cmd_trace.specs.Opened.{IsFault as IsTraceFault}
-use Rattle.object_alloc.specs.declared.fault.ImageNo.TheVariants as no
-use Rattle.cmd_trace.specs.declared.fault.TraceNo.TheVariants as trace_no
 use Rattle.simdram_cli.specs.declared.words.Command.TheVariants.{Replay}
 use Rattle.simdram_cli.specs.declared.words.ReplayNames.{ReplayNames}
 use Rattle.simdram_cli.specs.declared.words.TheConstants.{IMAGE_MAX, TRACE_MAX}
@@ -38,17 +36,18 @@ use Rattle.simdram_cli.specs.Inputs.{image_found, image_of, image_or_refusal, im
 use Rattle.simdram_cli.specs.Job.{opened_counters, opening, reading}
 use Rattle.simdram_cli.specs.Plans.{said_of}
 use Rattle.simdram_cli.specs.Replay.{EventsDone, Replayed, events_plan, events_steps, replay_steps}
-use Rattle.simdram_cli.specs.Replay.{image_replayed, is_aap, is_ap, is_write}
-use Rattle.simdram_cli.specs.Replay.{replay_counters, replay_image_plan, replay_line, replay_plan}
+use Rattle.simdram_cli.specs.Replay.{image_replayed, is_aap, is_ap, is_write, replay_counters}
+use Rattle.simdram_cli.specs.Replay.{replay_image_plan, replay_line, replay_plan}
 use Rattle.simdram_cli.specs.Stops.{image_reason, reason_of, trace_reason}
 use Rattle.simdram_cli.specs.Traces.{geometry_differs, if_same, image_for, same_geometry, trace_in}
 use Rattle.simdram_cli.specs.Traces.{trace_or_refusal, trace_refusal}
 use Rattle.simdram_cli.specs.Works.{OpenedOn}
 use Rattle.simdram_cli.proofs.JobPlans.{good_file}
 use Rattle.simdram_cli.proofs.Planned.{GivesOwn, IsFailing, IsOneOf, Proved, spares_by, zero_tells}
-use Rattle.simdram_cli.proofs.Sending.{left_by}
-use Rattle.simdram_cli.proofs.Stores.{sent, use_broke, used}
+use Rattle.simdram_cli.proofs.Stores.{sent, use_broke, used, put}
 use Rattle.simdram_cli.proofs.Tallies.{log_is}
+use Rattle.object_alloc.specs.declared.fault.ImageNo.TheVariants as no
+use Rattle.cmd_trace.specs.declared.fault.TraceNo.TheVariants as trace_no
 
 -- two geometries with equal fields are one
 
@@ -162,7 +161,7 @@ reads_still events i a b o did =
 
 -- the steps after the opening
 abbrev rest_of : Trace → Image → List Step
-rest_of t i = Use (doing (opened i) t.events) ∷ reading (replayed t.events i) ∷ []
+rest_of t i = Use (doing (opened i) t.events) ∷ reading i.geometry (replayed t.events i) ∷ []
 
 pub rows_unopened : (t : Trace) (i : Image) (reason : Reason) (a b : World)
     → Goes (opening i ∷ []) (Stopped reason) a b → Goes (replay_steps t i) (Stopped reason) a b
@@ -179,30 +178,28 @@ events_failed t i files sink before a b g l o s =
       refl,
       use_broke files sink a b l,
       s.rose,
-      left_by t.events (opened i) b.banks
-          (subst (λ (banks : Banks). StoppedWithin t.events banks b.banks) o.banks
-          (stopped_at_event t.events a b s)),
+      subst (λ (banks : Banks). StoppedWithin 0 t.events banks b.banks) o.banks
+          (stopped_at_event t.events a b s),
     ))
 
 pub reads_failed : (t : Trace) (i : Image) (files : FolderView) (sink : SinkView)
     (before a b c : ChipView)
     → Goes (opening i ∷ []) Done (world files sink before) (world files sink a)
     → b.faults ≤ c.faults → OpenedOn i a → Did t.events a b
-    → Rose b.faults c.faults → StoppedWithin [] b.banks c.banks
+    → Rose b.faults c.faults → StoppedWithin i.geometry.banks [] b.banks c.banks
     → Goes (replay_steps t i) (Stopped ChipFailed) (world files sink before) (world files sink c)
 reads_failed t i files sink before a b c g m o did r s =
     goes_on (opening i ∷ []) (rest_of t i) (Stopped ChipFailed) (world files sink before)
     (world files sink a) (world files sink c) g (inl (
       world files sink b,
       (
-        used files sink a b did.faults,
+        used _ files sink a b did.faults (did.banks ∙ ap (after t.events) o.banks),
         inr (
           refl,
           use_broke files sink b c m,
           r,
-          left_by [] (replayed t.events i) c.banks
-              (subst (λ (banks : Banks). StoppedWithin [] banks c.banks)
-              (did.banks ∙ ap (after t.events) o.banks) s),
+          subst (λ (banks : Banks). StoppedWithin i.geometry.banks [] banks c.banks)
+              (did.banks ∙ ap (after t.events) o.banks) s,
         ),
       ),
     ))
@@ -210,14 +207,18 @@ reads_failed t i files sink before a b c g m o did r s =
 pub rows_read : (t : Trace) (i : Image) (files : FolderView) (sink : SinkView)
     (before a b c : ChipView)
     → Goes (opening i ∷ []) Done (world files sink before) (world files sink a)
-    → b.faults ≡ a.faults → c.faults ≡ b.faults
+    → b.faults ≡ a.faults → b.banks ≡ replayed t.events i → c.faults ≡ b.faults
+    → c.banks ≡ b.banks
     → Goes (replay_steps t i) Done (world files sink before) (world files sink c)
-rows_read t i files sink before a b c g l m =
+rows_read t i files sink before a b c g l left m same =
     goes_on (opening i ∷ []) (rest_of t i) Done (world files sink before) (world files sink a)
     (world files sink c) g
     (inl (
       world files sink b,
-      (used files sink a b l, inl (world files sink c, (used files sink b c m, refl))),
+      (
+        used _ files sink a b l left,
+        inl (world files sink c, (used _ files sink b c m (same ∙ left), refl)),
+      ),
     ))
 
 pub events_done : (t : Trace) (i : Image) (g : Geometry) (a b c : ChipView) → g ≡ i.geometry
@@ -263,12 +264,12 @@ not_put name bytes line f g s t k u p n r =
 
 pub all_put : (name bytes line : List ℕ) (f g : FolderView) (s t : SinkView) (k : ChipView)
     → Stored name bytes (world f s k) (world g s k)
-    → Known (λ before after. after ≡ before ++ line) s.sent t.sent → s.faults ≤ t.faults
+    → Known (λ before after. after ≡ before ++ line) s.sent t.sent → t.faults ≡ s.faults
     → Goes (Store name bytes ∷ Put line ∷ []) Done (world f s k) (world g t k)
 all_put name bytes line f g s t k u p n =
     inl (
       world g s k,
-      (u, inl (world g t k, (sent (λ before after. after ≡ before ++ line) g s t k p n, refl))),
+      (u, inl (world g t k, (put line g s t k p n, refl))),
     )
 
 -- the events on an image

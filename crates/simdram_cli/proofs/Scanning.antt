@@ -35,19 +35,16 @@ use Rattle.scan_model.proofs.Answered.{elements}
 use Rattle.scan_query.specs.Answers.{CountersRose, answer_of, is_done}
 use Rattle.scan_query.specs.Parsing.{IsQueryOf}
 use Rattle.scan_query.specs.Queries.{IsNodesOf}
-use Rattle.scan_query.specs.Running.{AreBelow}
+use Rattle.scan_query.specs.Running.{AreBelow, events_until, until_refused}
 use Rattle.scan_query.specs.declared.query.ScanReply.{ScanReply}
 use Rattle.cli_model.specs.Runs.{Went}
 use Rattle.cli_model.proofs.Delivering.{if_delivered}
 use Rattle.cli_model.proofs.Running.{if_all}
-use Rattle.scan_query.specs.declared.query.ScanReply.TheVariants as reply
 use Rattle.simdram_cli.specs.declared.words.Command.TheVariants.{Scan}
 use Rattle.simdram_cli.specs.declared.words.ScanNames.{ScanNames}
 use Rattle.simdram_cli.specs.declared.words.TheConstants.{IMAGE_MAX, QUERY_MAX}
 use Rattle.simdram_cli.specs.declared.stop.Stop.{Stop}
-use Rattle.simdram_cli.specs.declared.stop.Stop.TheVariants as stop
-use Rattle.simdram_cli.specs.Commands.{CanAnswer}
-use Rattle.simdram_cli.specs.Commands.{AreGood}
+use Rattle.simdram_cli.specs.Commands.{CanAnswer, AreGood}
 use Rattle.simdram_cli.specs.Headline.{read_as}
 use Rattle.simdram_cli.specs.Inputs.{image_found, image_of, image_or_refusal}
 use Rattle.simdram_cli.specs.Job.{opened_counters, opening}
@@ -59,13 +56,20 @@ use Rattle.simdram_cli.specs.Scan.{AnswerGoes, DoesScans, IsScanFile, QueryDone,
 use Rattle.simdram_cli.specs.Scan.{QueryStopped, ScanLeft, Scanned, answer_on, answer_plan}
 use Rattle.simdram_cli.specs.Scan.{count_line, number_found, query_plan, scan_counters, scan_counts}
 use Rattle.simdram_cli.specs.Scan.{query_use, scan_image_plan, scan_plan, use_steps}
-use Rattle.simdram_cli.proofs.Sending.{left_by}
 use Rattle.simdram_cli.specs.Stops.{reason_of}
 use Rattle.simdram_cli.specs.Works.{OpenedOn}
 use Rattle.simdram_cli.proofs.JobPlans.{good_file, image_refuses}
 use Rattle.simdram_cli.proofs.Planned.{GivesOwn, IsFailing, IsOneOf, Proved, spares_by, zero_tells}
 use Rattle.simdram_cli.proofs.Progress.{Holds}
-use Rattle.simdram_cli.proofs.Stores.{nothing_read, use_broke, used}
+use Rattle.cli_model.proofs.Doing.{nothing_read}
+use Rattle.simdram_cli.proofs.Stores.{use_broke, used}
+use Rattle.dram_model.specs.Chip.{Event}
+use Rattle.machine_model.specs.Pieces.{piece_of}
+use Rattle.sim_machine.specs.declared.machine.Machine.{Machine}
+use Rattle.sim_machine.specs.Machine.{geometry_of, program_of, table_in, turn_in}
+use Rattle.cli_model.specs.Waves.{banks_after}
+use Rattle.scan_query.specs.declared.query.ScanReply.TheVariants as reply
+use Rattle.simdram_cli.specs.declared.stop.Stop.TheVariants as stop
 
 -- a query text
 
@@ -178,31 +182,32 @@ pub not_opened : (program : Program) (q : Query) (i : Image) (why : Stop) (a b :
 not_opened program q i why a b g = inl (
   a,
   (
-    nothing_read a,
+    refl,
     stops (opening i ∷ []) (use_steps (query_use program q i) (checked i.table (nodes_of q)))
         (reason_of why) a b g,
   ),
 )
 
 -- the chip is used where no comparison is at fault
-use_failed : (on : Option ChipUse) (o : Option (ScanWhy × ℕ)) (files : FolderView)
+use_failed : (on : ChipUse) (o : Option (ScanWhy × ℕ)) (files : FolderView)
     (sink : SinkView) (a b : ChipView) → a.faults ≤ b.faults → Rose a.faults b.faults
     → IsLeftBy on b.banks → ((fault : ScanWhy × ℕ) → o ≡ Some fault → ⊥)
     → Goes (use_steps on o) (Stopped ChipFailed) (world files sink a) (world files sink b)
 use_failed on None files sink a b l r left none = inr (refl, use_broke files sink a b l, r, left)
 use_failed on (Some fault) files sink a b l r left none = absurd (none fault refl)
 
-use_done : (on : Option ChipUse) (o : Option (ScanWhy × ℕ)) (files : FolderView) (sink : SinkView)
-    (a b : ChipView) → b.faults ≡ a.faults → ((fault : ScanWhy × ℕ) → o ≡ Some fault → b ≡ a)
+use_done : (on : ChipUse) (o : Option (ScanWhy × ℕ)) (files : FolderView) (sink : SinkView)
+    (a b : ChipView) → b.faults ≡ a.faults → (o ≡ None → b.banks ≡ banks_after on) → ((fault : ScanWhy × ℕ) → o ≡ Some fault → b ≡ a)
     → Goes (use_steps on o) Done (world files sink a) (world files sink b)
-use_done on None files sink a b e same = inl (world files sink b, (used files sink a b e, refl))
-use_done on (Some fault) files sink a b e same = ap (world files sink) (same fault refl)
+use_done on None files sink a b e left same =
+    inl (world files sink b, (used _ files sink a b e (left refl), refl))
+use_done on (Some fault) files sink a b e left same = ap (world files sink) (same fault refl)
 
-taken_open : (i : Image) (on : Option ChipUse) (o : Option (ScanWhy × ℕ)) (end : End)
+taken_open : (i : Image) (on : ChipUse) (o : Option (ScanWhy × ℕ)) (end : End)
     (a b c : World) → Goes (opening i ∷ []) Done a b
     → Goes (use_steps on o) end b c → Goes (Take ∷ opening i ∷ use_steps on o) end a c
 taken_open i on o end a b c g h =
-    inl (a, (nothing_read a, goes_on (opening i ∷ []) (use_steps on o) end a b c g h))
+    inl (a, (refl, goes_on (opening i ∷ []) (use_steps on o) end a b c g h))
 
 not_ok : {T E : Type 0} (r : Result T E) (e : E) (P : T → Type 0) → r ≡ Err e → IsOkAnd r P → ⊥
 not_ok (Ok x) e P is ok = absurd (cc)
@@ -319,27 +324,55 @@ query_done program p q i nodes shape table turn reads old new ran holds e f o ra
       log = LogIs-more (row_writes i) events old.log new.log ran.opened_on.log did.log;
     }
 
--- and what the chip has where it failed among them
-left_events : (program p : Program) (i : Image) (shape : Geometry) (table : List Named)
-    (turn : Turn) (script own : List Instruction) (a b : Banks) → shape ≡ i.geometry
-    → p ≡ program → table ≡ i.table → turn ≡ Ahead → script ≡ own
-    → StoppedWithin (events_of_pieces shape (routines_in p) turn table (pieces script)) a b
-    → StoppedWithin (script_events i.geometry (routines_in program) i.table own) a b
-left_events program p i shape table turn script own a b e f t o s left = rw (e, f, t, o, s) at left
+-- the events of its instructions before the first that is refused
+own_use : (program p : Program) (i : Image) (shape : Geometry) (table : List Named) (turn : Turn)
+    (script own : List Instruction) → shape ≡ i.geometry → p ≡ program → table ≡ i.table
+    → turn ≡ Ahead → script ≡ own
+    → events_of_pieces shape (routines_in p) turn table (map piece_of (until_refused shape
+    (routines_in p) table script))
+    ≡ events_of_pieces i.geometry (routines_in program) Ahead i.table (map piece_of (until_refused
+    i.geometry (routines_in program) i.table own))
+own_use program p i shape table turn script own e f t o s = rw (e, f, t, o, s) refl
 
-pub query_left : (program p : Program) (q : Query) (i : Image) (nodes : List Node)
-    (shape : Geometry) (table : List Named) (turn : Turn) (old new : ChipView)
-    → RanOn program q i nodes table old new → shape ≡ i.geometry → p ≡ program → turn ≡ Ahead
-    → StoppedWithin (events_of_pieces shape (routines_in p) turn table
-    (pieces (scan_script table nodes))) old.banks new.banks
+own_count : (program : Program) (q : Query) (i : Image) (nodes : List Node)
+    (table : List Named) (old new : ChipView) → RanOn program q i nodes table old new
+    → count_of table nodes ≡ query_count i.table q
+own_count program q i nodes table old new r =
+    ap (λ (t : List Named). count_of t nodes) r.table_is
+    ∙ ap (count_of i.table) r.nodes_are.nodes_are
+
+-- what the chip has where it failed among them
+pub query_left : (program : Program) (q : Query) (i : Image) (nodes : List Node) (m : Machine)
+    (old new : ChipView) → RanOn program q i nodes (table_in m) old new
+    → geometry_of m ≡ i.geometry → program_of m ≡ program → turn_in m ≡ Ahead
+    → StoppedWithin (segments_of (geometry_of m) (count_of (table_in m) nodes))
+    (events_until m (scan_script (table_in m) nodes)) old.banks new.banks
     → IsLeftBy (query_use program q i) new.banks
-query_left program p q i nodes shape table turn old new ran e f o left =
-    let events = script_events i.geometry (routines_in program) i.table
-    (query_script i.table q) in
-    left_by events (opened i) new.banks
-    (subst (λ (banks : Banks). StoppedWithin events banks new.banks) ran.opened_on.banks
-    (left_events program p i shape table turn (scan_script table nodes) (query_script i.table q)
-    old.banks new.banks e f ran.table_is o (own_script program q i nodes table old new ran) left))
+query_left program q i nodes m old new ran e f o left =
+    let on = query_use program q i in
+    let same : segments_of (geometry_of m) (count_of (table_in m) nodes) ≡ on.reads =
+    ap (λ (g : Geometry). segments_of g (count_of (table_in m) nodes)) e
+    ∙ ap (segments_of i.geometry) (own_count program q i nodes (table_in m) old new ran) in
+    let events = own_use program (program_of m) i (geometry_of m) (table_in m) (turn_in m)
+    (scan_script (table_in m) nodes) (query_script i.table q) e f ran.table_is o
+    (own_script program q i nodes (table_in m) old new ran) in
+    subst (λ (banks : Banks). StoppedWithin on.reads on.events banks new.banks) ran.opened_on.banks
+    (subst (λ (es : List Event). StoppedWithin on.reads es old.banks new.banks) events
+    (subst (λ (n : ℕ). StoppedWithin n (events_until m (scan_script (table_in m) nodes)) old.banks
+    new.banks) same left))
+
+-- and where it did not
+pub query_used : (program : Program) (q : Query) (i : Image) (nodes : List Node) (m : Machine)
+    (old new : ChipView) → RanOn program q i nodes (table_in m) old new
+    → geometry_of m ≡ i.geometry → program_of m ≡ program → turn_in m ≡ Ahead
+    → new.banks ≡ after (events_until m (scan_script (table_in m) nodes)) old.banks
+    → new.banks ≡ banks_after (query_use program q i)
+query_used program q i nodes m old new ran e f o used =
+    used
+    ∙ ap (λ (es : List Event). after es old.banks) (own_use program (program_of m) i (geometry_of m)
+    (table_in m) (turn_in m) (scan_script (table_in m) nodes) (query_script i.table q) e f
+    ran.table_is o (own_script program q i nodes (table_in m) old new ran))
+    ∙ ap (after (query_use program q i).events) ran.opened_on.banks
 
 pub asked_done : {E : Type 0} (program : Program) (q : Query) (i : Image) (nodes : List Node)
     (table : List Named) (files : FolderView) (sink : SinkView) (before old new : ChipView)
@@ -349,13 +382,14 @@ pub asked_done : {E : Type 0} (program : Program) (q : Query) (i : Image) (nodes
     → g ≡ i.geometry → answer_of said ≡ answer_on program q i
     → CountersRose said (segments_of g (count_of table nodes)) old.counters new.counters
     → ((found : ScanWhy × ℕ) → checked table nodes ≡ Some found → IsOkAnd r (λ said. new ≡ old))
+    → (checked table nodes ≡ None → new.banks ≡ banks_after (query_use program q i))
     → (is_done said ≡ true → QueryDone program q i new) → Kept old new → new.faults ≡ old.faults
     → ((reason : Why) (k : ℕ) → checked i.table (nodes_of q) ≡ None
     → scan_refused i.geometry (routines_in program) i.table q ≡ Some (reason, k)
     → QueryStopped program q i reason new)
     → AnswerGoes program q i (Ok said) (world files sink before) (world files sink new)
 asked_done program q i nodes table files sink before old new r said g ran opens is shape says rose
-    unused did kept unfailed stopped =
+    unused used did kept unfailed stopped =
     let o = checked i.table (nodes_of q) in
     let stays : (fault : ScanWhy × ℕ) → o ≡ Some fault → new ≡ old = λ fault some.
     ok_and r said (new ≡ old) is (unused fault
@@ -363,7 +397,8 @@ asked_done program q i nodes table files sink before old new r said g ran opens 
       says,
       taken_open i (query_use program q i) o Done (world files sink before)
           (world files sink old) (world files sink new) opens
-          (use_done (query_use program q i) o files sink old new unfailed stays),
+          (use_done (query_use program q i) o files sink old new unfailed
+          (λ none. used (sym (checks_are program q i nodes table old new ran) ∙ none)) stays),
       record {
         begun = kept.begun ∙ ran.opened_on.begun;
         geometry = kept.geometry ∙ ran.opened_on.geometry;
@@ -509,7 +544,7 @@ query_refuses : (P : ℕ → Type 0) → P 15 → (text : List ℕ)
     → IfErr (query_in text) (λ refusal. P refusal.status)
 query_refuses P fifteen text = broken_so P (fault_in text) fifteen
 
-use_of : (P : ℕ → Type 0) (on : Option ChipUse) (fault : Option (ScanWhy × ℕ)) → P 9
+use_of : (P : ℕ → Type 0) (on : ChipUse) (fault : Option (ScanWhy × ℕ)) → P 9
     → OfSteps P (use_steps on fault)
 use_of P on None nine = (nine, tt)
 use_of P on (Some fault) nine = tt
@@ -604,7 +639,7 @@ counted_by left (Found found of counts) before after sent said chip status (same
 }
 counted_by left (NotFound why k) before after sent said chip status d = absurd d
 
-use_quiet : (on : Option ChipUse) (fault : Option (ScanWhy × ℕ))
+use_quiet : (on : ChipUse) (fault : Option (ScanWhy × ℕ))
     → sent_by (use_steps on fault) ≡ []
 use_quiet on None = refl
 use_quiet on (Some fault) = refl

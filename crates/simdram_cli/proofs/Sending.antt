@@ -8,22 +8,21 @@ use Rattle.simdram_cli.proofs.Common.{with_reads, Named, Instruction, Turn, Rout
 use Rattle.simdram_cli.proofs.Common.{Alone, AreBbops, Wave, Said, line, lines, said_in_rows}
 use Rattle.simdram_cli.proofs.Common.{rows_printed, sum_done, waves_are_answered, StepFault}
 use Rattle.simdram_cli.proofs.Common.{Machine, events_by, geometry_of, is_print, operations_by}
-use Rattle.simdram_cli.proofs.Common.{table_in, DidAndRead, world, ChipUse, IsLeftBy, doing}
-use Rattle.simdram_cli.proofs.Common.{StoppedWithin, Step, Use, Put, Goes, PutFailed, ChipFailed}
-use Rattle.simdram_cli.proofs.Common.{Done, Stopped}
+use Rattle.simdram_cli.proofs.Common.{table_in, DidAndRead, world, ChipUse, IsLeftBy, Step, Use}
+use Rattle.simdram_cli.proofs.Common.{Put, Goes, PutFailed, ChipFailed, Done, Stopped}
 use Rattle.host_edge.specs.Views.{IsPrefix}
 use Rattle.machine_model.specs.Report.{Answered}
 use Rattle.machine_model.specs.Steps.{reply_to}
 use Rattle.object_steps.specs.Lines.{DidReadAtMost}
 use Rattle.sim_machine.proofs.Stepping.{if_same}
-use Rattle.cli_model.specs.Waves.{ChipWave, IsDoneBy, StoppedIn}
-use Rattle.sim_machine.specs.Opening.{IsLeftUnopened, all_writes}
-use Rattle.cli_model.specs.Steps.{IsLeftUnopened as IsUnopened, UseFor, Print, Printed, PrintFailed}
+use Rattle.cli_model.specs.Waves.{ChipWave, StoppedIn, banks_after}
+use Rattle.cli_model.specs.Steps.{UseFor, Print, Printed, PrintFailed, line_steps}
+use Rattle.simdram_cli.specs.Job.{put_lines, piece_steps, wave_on}
+use Rattle.simdram_cli.specs.Stops.{fault_reason}
+use Rattle.simdram_cli.proofs.Stores.{used, use_broke, sent, line_done, line_unput, put}
+use Rattle.machine_model.specs.Pieces.{piece_events}
 use Rattle.bbop_isa.specs.Forms as instruction
 use Rattle.object_steps.specs.declared.fault.StepFault.TheVariants as step_fault
-use Rattle.simdram_cli.specs.Job.{put_lines, instr_steps, piece_steps, wave_on}
-use Rattle.simdram_cli.specs.Stops.{fault_reason}
-use Rattle.simdram_cli.proofs.Stores.{used, use_broke, sent, line_done, line_unput}
 
 -- a sink that was sent these bytes, and counted no fault
 abbrev more_sent : Option (List ℕ) → List ℕ → Option (List ℕ)
@@ -49,14 +48,14 @@ known_rest (Some old) (Some new) first rest t = t ∙ sym (append_assoc old firs
 pub lines_sent : (number : ℕ) (said : Said) (rest : List Said) (files : FolderView)
     (s t : SinkView) (chip : ChipView)
     → Known (λ before after. after ≡ before ++ lines number (said ∷ rest)) s.sent t.sent
-    → s.faults ≤ t.faults
+    → t.faults ≡ s.faults
     → Goes (put_lines number (said ∷ rest)) Done (world files s chip) (world files t chip)
 lines_sent number said [] files s t chip known l =
     inl (
       world files t chip,
       (
-        sent (λ before after. after ≡ before ++ line number said) files s t
-            chip (subst (λ w. Known (λ before after. after ≡ before ++ w) s.sent t.sent)
+        put (line number said) files s t chip
+            (subst (λ w. Known (λ before after. after ≡ before ++ w) s.sent t.sent)
             (append-nil (line number said)) known) l,
         refl,
       ),
@@ -67,8 +66,7 @@ lines_sent number said (next ∷ rest) files s t chip known l =
     inl (
       world files mid chip,
       (
-        sent (λ before after. after ≡ before ++ first) files s mid chip
-            (known_more s.sent first) (omega arith),
+        put first files s mid chip (known_more s.sent first) refl,
         lines_sent (number + 1) next rest files mid t chip
             (known_rest s.sent t.sent first (lines (number + 1) (next ∷ rest)) known) l,
       ),
@@ -128,8 +126,7 @@ lines_cut number said (next ∷ rest) files s t chip known l rose =
       | inr more ↦ inl (
         world files mid chip,
         (
-          sent (λ before after. after ≡ before ++ first) files s mid chip
-              (known_more s.sent first) (omega arith),
+          put first files s mid chip (known_more s.sent first) refl,
           lines_cut (number + 1) next rest files mid t chip more l rose,
         ),
       )
@@ -137,10 +134,11 @@ lines_cut number said (next ∷ rest) files s t chip known l rose =
 
 -- a line is sent while the chip is read
 
-printed : (R : List ℕ → List ℕ → Type 0) (files : FolderView) (s t : SinkView) (a b : ChipView)
-    → Known R s.sent t.sent → s.faults ≤ t.faults → b.faults ≡ a.faults
-    → Printed R (world files s a) (world files t b)
-printed R files s t a b known l e = record { files = refl; sent = known; faults = l; chip = e }
+printed : (R : List ℕ → List ℕ → Type 0) (banks : Banks) (files : FolderView) (s t : SinkView)
+    (a b : ChipView) → Known R s.sent t.sent → s.faults ≤ t.faults → b.faults ≡ a.faults
+    → b.banks ≡ banks → Printed R banks (world files s a) (world files t b)
+printed R banks files s t a b known l e left =
+    record { files = refl; sent = known; faults = l; chip = e; left = left }
 
 -- and perhaps not to its end
 half_printed : (bytes : List ℕ) (files : FolderView) (s t : SinkView) (a b : ChipView)
@@ -149,29 +147,23 @@ half_printed : (bytes : List ℕ) (files : FolderView) (s t : SinkView) (a b : C
 half_printed bytes files s t a b known l m =
     record { files = refl; sent = known; faults = l; chip = m }
 
-pub print_done : (on : Option ChipUse) (bytes : List ℕ) (files : FolderView) (s t : SinkView) (a b : ChipView)
-    → Known (λ before after. after ≡ before ++ bytes) s.sent t.sent → s.faults ≤ t.faults
-    → b.faults ≡ a.faults
+print_done : (on : ChipUse) (bytes : List ℕ) (files : FolderView) (s t : SinkView) (a b : ChipView)
+    → Known (λ before after. after ≡ before ++ bytes) s.sent t.sent → t.faults ≡ s.faults
+    → b.faults ≡ a.faults → b.banks ≡ banks_after on
     → Goes (Print on bytes ∷ []) Done (world files s a) (world files t b)
-print_done on bytes files s t a b known l e =
-    inl (
-      world files t b,
-      (
-        printed (λ before after. after ≡ before ++ bytes) files s t a b known l e,
-        refl,
-      ),
-    )
+print_done on bytes files s t a b known k e left =
+    inl (world files t b, ((printed _ _ files s t a b known (omega (arith, k)) e left, k), refl))
 
-pub print_unput : (on : Option ChipUse) (bytes : List ℕ) (files : FolderView) (s t : SinkView) (a b : ChipView)
+print_unput : (on : ChipUse) (bytes : List ℕ) (files : FolderView) (s t : SinkView) (a b : ChipView)
     → Known (AppendsPart bytes) s.sent t.sent → s.faults ≤ t.faults → b.faults ≡ a.faults
-    → Rose s.faults t.faults → IsDoneBy on b.banks
+    → b.banks ≡ banks_after on → Rose s.faults t.faults
     → Goes (Print on bytes ∷ []) (Stopped PutFailed) (world files s a) (world files t b)
-print_unput on bytes files s t a b known l e rose done =
-    inr (inl (refl, printed (AppendsPart bytes) files s t a b known l e, rose, done))
+print_unput on bytes files s t a b known l e left rose =
+    inr (inl (refl, printed (AppendsPart bytes) _ files s t a b known l e left, rose))
 
-pub print_unread : (on : Option ChipUse) (bytes : List ℕ) (files : FolderView) (s t : SinkView) (a b : ChipView)
-    → Known (AppendsPart bytes) s.sent t.sent → s.faults ≤ t.faults → a.faults ≤ b.faults
-    → Rose a.faults b.faults → IsLeftBy on b.banks
+print_unread : (on : ChipUse) (bytes : List ℕ) (files : FolderView) (s t : SinkView)
+    (a b : ChipView) → Known (AppendsPart bytes) s.sent t.sent → s.faults ≤ t.faults
+    → a.faults ≤ b.faults → Rose a.faults b.faults → IsLeftBy on b.banks
     → Goes (Print on bytes ∷ []) (Stopped ChipFailed) (world files s a) (world files t b)
 print_unread on bytes files s t a b known l m rose left =
     inr (inr (refl, half_printed bytes files s t a b known l m, rose, left))
@@ -180,40 +172,28 @@ print_unread on bytes files s t a b known l m rose left =
 
 pub wave_done : (wave : ChipWave) (number : ℕ) (said : Said) (rest : List Said) (files : FolderView)
     (s t : SinkView) (a b : ChipView) → b.faults ≡ a.faults
+    → b.banks ≡ after wave.events wave.banks
     → Known (λ before after. after ≡ before ++ lines number (said ∷ rest)) s.sent t.sent
-    → s.faults ≤ t.faults
+    → t.faults ≡ s.faults
     → Goes (UseFor wave ∷ put_lines number (said ∷ rest)) Done (world files s a) (world files t b)
-wave_done wave number said rest files s t a b e known l =
-    inl (world files s b, (used files s a b e, lines_sent number said rest files s t b known l))
+wave_done wave number said rest files s t a b e left known l =
+    inl (world files s b, (used _ files s a b e left, lines_sent number said rest files s t b known l))
 
 pub wave_unput : (wave : ChipWave) (number : ℕ) (said : Said) (rest : List Said)
     (files : FolderView)
     (s t : SinkView) (a b : ChipView) → b.faults ≡ a.faults
+    → b.banks ≡ after wave.events wave.banks
     → Known (AppendsPart (lines number (said ∷ rest))) s.sent t.sent
     → s.faults ≤ t.faults → Rose s.faults t.faults
     → Goes (UseFor wave ∷ put_lines number (said ∷ rest)) (Stopped PutFailed) (world files s a)
     (world files t b)
-wave_unput wave number said rest files s t a b e known l rose =
-    inl (world files s b, (used files s a b e, lines_cut number said rest files s t b known l rose))
-
--- as the machine says it
-pub left_by : (events : List Event) (old new : Banks) → StoppedWithin events old new
-    → IsLeftBy (doing old events) new
-left_by events old new s = record {
-  done = s.done;
-  rest = s.left;
-  all = s.all;
-  bank = s.bank;
-  others = s.others;
-}
-
-pub unopened_by : (g : Geometry) (rows : List ℕ) (chip : ChipView) → IsLeftUnopened g rows chip
-    → IsUnopened (doing (blank_banks g) (all_writes g rows)) chip
-unopened_by g rows chip (inl not) = inl not
-unopened_by g rows chip (inr s) = inr (left_by (all_writes g rows) (blank_banks g) chip.banks s)
+wave_unput wave number said rest files s t a b e left known l rose = inl (
+  world files s b,
+  (used _ files s a b e left, lines_cut number said rest files s t b known l rose),
+)
 
 -- the chip failed, and nothing was sent
-pub unused : (on : Option ChipUse) (steps : List Step) (files : FolderView) (s t : SinkView)
+unused : (on : ChipUse) (steps : List Step) (files : FolderView) (s t : SinkView)
     (a b : ChipView) → a.faults ≤ b.faults → Rose a.faults b.faults → IsLeftBy on b.banks → t ≡ s
     → Goes (Use on ∷ steps) (Stopped ChipFailed) (world files s a) (world files t b)
 unused on steps files s t a b m rose left e =
@@ -230,12 +210,15 @@ unwaved wave steps files s t a b m rose stopped e =
     (world files x b)) (sym e) (inr (refl, use_broke files s a b m, rose, stopped))
 
 -- one instruction's line
-pub instr_done : (on : Option ChipUse) (prints : Bool) (bytes : List ℕ) (files : FolderView) (s t : SinkView)
-    (a b : ChipView) → Known (λ before after. after ≡ before ++ bytes) s.sent t.sent
-    → s.faults ≤ t.faults → b.faults ≡ a.faults
-    → Goes (instr_steps on prints bytes) Done (world files s a) (world files t b)
-instr_done on true bytes files s t a b known l m = print_done on bytes files s t a b known l m
-instr_done on false bytes files s t a b known l m = line_done on bytes files s t a b m known l
+pub instr_done : (on : ChipUse) (prints : Bool) (bytes : List ℕ) (files : FolderView)
+    (s t : SinkView) (a b : ChipView)
+    → Known (λ before after. after ≡ before ++ bytes) s.sent t.sent → t.faults ≡ s.faults
+    → b.faults ≡ a.faults → b.banks ≡ banks_after on
+    → Goes (line_steps on prints bytes) Done (world files s a) (world files t b)
+instr_done on true bytes files s t a b known l m left =
+    print_done on bytes files s t a b known l m left
+instr_done on false bytes files s t a b known l m left =
+    line_done on bytes files s t a b m left known l
 
 -- a print has no event, and where the chip was read for it the banks stand as they were
 print_is_quiet : (m : Machine) (instr : Instruction) → is_print instr ≡ true
@@ -249,44 +232,54 @@ print_is_quiet m (instruction.Fill name value) is = absurd (cc)
 print_is_quiet m (instruction.Free name) is = absurd (cc)
 print_is_quiet m (instruction.Order order) is = absurd (cc)
 
-pub shown_by : (m : Machine) (instr : Instruction) (n : ℕ) (a b : ChipView)
-    → is_print instr ≡ true → DidReadAtMost n a b
-    → (b.faults ≡ a.faults) × IsDoneBy (doing a.banks (events_by m (Alone instr))) b.banks
-shown_by m instr n a b is read = (
-  read.did.faults,
-  read.did.banks
-      ∙ ap (λ (es : List Event). after es a.banks) (sym (print_is_quiet m instr is)),
-)
+-- what stands where its line was not put
+told_so : (m : Machine) (instr : Instruction) (n : ℕ) (a b : ChipView) (prints : Bool)
+    → is_print instr ≡ prints
+    → (is_print instr ≡ false → DidAndRead (events_by m (Alone instr)) n a b)
+    → (is_print instr ≡ true → DidReadAtMost n a b)
+    → (b.faults ≡ a.faults) × (b.banks ≡ after (events_by m (Alone instr)) a.banks)
+told_so m instr n a b false is did read = let d = did is in (d.faults, d.banks)
+told_so m instr n a b true is did read =
+    let r = read is in (
+      r.did.faults,
+      r.did.banks ∙ ap (λ (es : List Event). after es a.banks) (sym (print_is_quiet m instr is)),
+    )
+
+pub untold : (m : Machine) (instr : Instruction) (n : ℕ) (a b : ChipView)
+    → (is_print instr ≡ false → DidAndRead (events_by m (Alone instr)) n a b)
+    → (is_print instr ≡ true → DidReadAtMost n a b)
+    → (b.faults ≡ a.faults) × (b.banks ≡ after (events_by m (Alone instr)) a.banks)
+untold m instr n a b did read = told_so m instr n a b (is_print instr) refl did read
 
 -- what is known where an instruction was not done
-pub record Failed (on : Option ChipUse) (fault : StepFault) (prints : Bool) (bytes : List ℕ)
+pub record Failed (on : ChipUse) (fault : StepFault) (prints : Bool) (bytes : List ℕ)
     (s t : SinkView) (a b : ChipView) : Type 0 where
   pub sink : s.faults ≤ t.faults
   pub chip : a.faults ≤ b.faults
   pub chip_rose : fault ≡ step_fault.ChipFault → Rose a.faults b.faults
-  pub unfailed : fault ≡ step_fault.WriteFault → prints ≡ false → b.faults ≡ a.faults
-  pub read : fault ≡ step_fault.WriteFault → prints ≡ true
-      → (b.faults ≡ a.faults) × IsDoneBy on b.banks
+  pub unfailed : fault ≡ step_fault.WriteFault
+      → (b.faults ≡ a.faults) × (b.banks ≡ banks_after on)
   pub left : fault ≡ step_fault.ChipFault → IsLeftBy on b.banks
   pub unsent : fault ≡ step_fault.ChipFault → prints ≡ false → t ≡ s
   pub sink_rose : fault ≡ step_fault.WriteFault → Rose s.faults t.faults
   pub part : fault ≡ step_fault.WriteFault → Known (AppendsPart bytes) s.sent t.sent
   pub cut : prints ≡ true → Known (AppendsPart bytes) s.sent t.sent
 
-pub instr_failed : (on : Option ChipUse) (fault : StepFault) (prints : Bool) (bytes : List ℕ)
+pub instr_failed : (on : ChipUse) (fault : StepFault) (prints : Bool) (bytes : List ℕ)
     (files : FolderView) (s t : SinkView) (a b : ChipView) → Failed on fault prints bytes s t a b
-    → Goes (instr_steps on prints bytes) (Stopped (fault_reason fault)) (world files s a)
+    → Goes (line_steps on prints bytes) (Stopped (fault_reason fault)) (world files s a)
     (world files t b)
 instr_failed on step_fault.ChipFault true bytes files s t a b f =
     print_unread on bytes files s t a b (f.cut refl) f.sink f.chip (f.chip_rose refl) (f.left refl)
 instr_failed on step_fault.WriteFault true bytes files s t a b f =
-    print_unput on bytes files s t a b (f.cut refl) f.sink (f.read refl refl).0 (f.sink_rose refl)
-    (f.read refl refl).1
+    print_unput on bytes files s t a b (f.cut refl) f.sink (f.unfailed refl).0 (f.unfailed refl).1
+    (f.sink_rose refl)
 instr_failed on step_fault.ChipFault false bytes files s t a b f =
     unused on (Put bytes ∷ []) files s t a b f.chip (f.chip_rose refl) (f.left refl)
     (f.unsent refl refl)
 instr_failed on step_fault.WriteFault false bytes files s t a b f =
-    line_unput on bytes files s t a b (f.unfailed refl refl) (f.part refl) f.sink (f.sink_rose refl)
+    line_unput on bytes files s t a b (f.unfailed refl).0 (f.unfailed refl).1 (f.part refl) f.sink
+    (f.sink_rose refl)
 
 -- a wave's lines
 abbrev answers_of : Geometry → Routines → List Named → List Instruction → List Said
@@ -303,25 +296,26 @@ answers_sent : (on : ChipWave) (g : Geometry) (o : Routines) (table : List Named
     (wave : List Instruction) (files : FolderView) (s t : SinkView) (a b : ChipView)
     → 0 < length wave
     → Known (λ before after. after ≡ before ++ lines number (answers_of g o table wave)) s.sent
-    t.sent → s.faults ≤ t.faults → b.faults ≡ a.faults
+    t.sent → t.faults ≡ s.faults → b.faults ≡ a.faults → b.banks ≡ after on.events on.banks
     → Goes (UseFor on ∷ put_lines number (answers_of g o table wave)) Done (world files s a)
     (world files t b)
-answers_sent on g o table number [] files s t a b some known l m = absurd (omega (arith, some))
-answers_sent on g o table number (instr ∷ wave) files s t a b some known l m =
+answers_sent on g o table number [] files s t a b some known l m left = absurd (omega (arith, some))
+answers_sent on g o table number (instr ∷ wave) files s t a b some known l m left =
     wave_done on number (Answered (reply_to g o table instr)) (answers_of g o table wave) files s t
-    a b m known l
+    a b m left known l
 
 pub wave_sent : (g : Geometry) (o : Routines) (turn : Turn) (table : List Named) (banks : Banks)
     (number : ℕ) (wave : List Instruction) (files : FolderView) (s t : SinkView) (a b : ChipView)
     → AreBbops wave → 0 < length wave
     → Known (λ before after. after ≡ before ++ lines number (answers_of g o table wave)) s.sent
-    t.sent → s.faults ≤ t.faults → b.faults ≡ a.faults
+    t.sent → t.faults ≡ s.faults → b.faults ≡ a.faults
+    → b.banks ≡ after (piece_events g o turn table (Wave wave)) banks
     → Goes (piece_steps g o turn table banks number (Wave wave)) Done (world files s a)
     (world files t b)
-wave_sent g o turn table banks number wave files s t a b bbops some known l m =
+wave_sent g o turn table banks number wave files s t a b bbops some known l m left =
     rw (wave_said g o table banks wave bbops)
     (answers_sent (wave_on g o turn table banks wave) g o table number wave files s t a b some known
-    l m)
+    l m left)
 
 -- what is known where a wave was not done
 pub record WaveFailed (fault : StepFault) (wave : ChipWave) (bytes : List ℕ) (s t : SinkView)
@@ -329,7 +323,8 @@ pub record WaveFailed (fault : StepFault) (wave : ChipWave) (bytes : List ℕ) (
   pub sink : s.faults ≤ t.faults
   pub chip : a.faults ≤ b.faults
   pub chip_rose : fault ≡ step_fault.ChipFault → Rose a.faults b.faults
-  pub unfailed : fault ≡ step_fault.WriteFault → b.faults ≡ a.faults
+  pub unfailed : fault ≡ step_fault.WriteFault
+      → (b.faults ≡ a.faults) × (b.banks ≡ after wave.events wave.banks)
   pub stopped : fault ≡ step_fault.ChipFault → StoppedIn wave b.banks
   pub unsent : fault ≡ step_fault.ChipFault → t ≡ s
   pub sink_rose : fault ≡ step_fault.WriteFault → Rose s.faults t.faults
@@ -348,7 +343,7 @@ answers_cut step_fault.ChipFault on g o table number (instr ∷ wave) files s t 
     (f.chip_rose refl) (f.stopped refl) (f.unsent refl)
 answers_cut step_fault.WriteFault on g o table number (instr ∷ wave) files s t a b some f =
     wave_unput on number (Answered (reply_to g o table instr)) (answers_of g o table wave) files s t a
-    b (f.unfailed refl) (f.part refl) f.sink (f.sink_rose refl)
+    b (f.unfailed refl).0 (f.unfailed refl).1 (f.part refl) f.sink (f.sink_rose refl)
 
 pub wave_failed : (fault : StepFault) (g : Geometry) (o : Routines) (turn : Turn)
     (table : List Named) (banks : Banks) (number : ℕ) (wave : List Instruction)

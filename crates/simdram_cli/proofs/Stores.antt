@@ -6,8 +6,10 @@ use Rattle.simdram_cli.proofs.Common.{Files, FolderView, SinkView, Known, Rose, 
 use Rattle.simdram_cli.proofs.Common.{ChipUse, World, world, with_file, Take, Use, Store, Put}
 use Rattle.simdram_cli.proofs.Common.{CannotWrite, PutFailed, Done, Stopped, Goes, Stored, Unstored}
 use Rattle.std.specs.Prelude.{OnOk, OnErr, is_err}
-use Rattle.host_edge.specs.Views.{NoCountFalls, KeepsOthers, HasBytes}
-use Rattle.cli_model.specs.Steps.{ReadsOnly, Used, UseFailed, Sent}
+use Rattle.host_edge.specs.Views.{NoCountFalls, KeepsOthers, HasBytes, Unfailed}
+use Rattle.cli_model.specs.Steps.{Used, UseFailed, Sent, StepDone}
+use Rattle.dram_model.specs.Chip.{Banks}
+use Rattle.cli_model.specs.Waves.{banks_after}
 
 different : (other name : List ℕ) → bytes_eq other name ≡ false → other ≡ name → ⊥
 different other name e is = let same = (bytes_eq-Decides other name).1 is in cc
@@ -30,9 +32,14 @@ stored_is name bytes (Some before) (Some after) t h =
 
 pub stored : (name bytes : List ℕ) (old new : FolderView) (sink : SinkView) (chip : ChipView)
     → Known (KeepsOthers name) old.holds new.holds → HasBytes new name bytes → NoCountFalls old new
-    → Stored name bytes (world old sink chip) (world new sink chip)
-stored name bytes old new sink chip t h n = record
-    { files = stored_is name bytes old.holds new.holds t h; counts = n; sink = refl; chip = refl }
+    → Unfailed old new → Stored name bytes (world old sink chip) (world new sink chip)
+stored name bytes old new sink chip t h n u = record {
+  files = stored_is name bytes old.holds new.holds t h;
+  counts = n;
+  unfailed = u;
+  sink = refl;
+  chip = refl;
+}
 
 pub unstored : (name : List ℕ) (old new : FolderView) (sink : SinkView) (chip : ChipView)
     → Known (KeepsOthers name) old.holds new.holds → Rose old.store_faults new.store_faults
@@ -45,9 +52,9 @@ unstored name old new sink chip t r n = record {
   chip = refl;
 }
 
-pub used : (files : FolderView) (sink : SinkView) (a b : ChipView) → b.faults ≡ a.faults
-    → Used (world files sink a) (world files sink b)
-used files sink a b e = record { files = refl; sink = refl; chip = e }
+pub used : (banks : Banks) (files : FolderView) (sink : SinkView) (a b : ChipView)
+    → b.faults ≡ a.faults → b.banks ≡ banks → Used banks (world files sink a) (world files sink b)
+used banks files sink a b e left = record { files = refl; sink = refl; chip = e; left = left }
 
 -- the use of the chip failed
 pub use_broke : (files : FolderView) (sink : SinkView) (a b : ChipView) → a.faults ≤ b.faults
@@ -60,53 +67,41 @@ pub sent : (R : List ℕ → List ℕ → Type 0) (files : FolderView) (old new 
     → Sent R (world files old chip) (world files new chip)
 sent R files old new chip t l = record { files = refl; sent = t; faults = l; chip = refl }
 
-pub nothing_read : (w : World) → ReadsOnly w w
-nothing_read w = record {
-  files = refl;
-  counts = record {
-    load_faults = λ name. omega arith;
-    store_faults = omega arith;
-    taken = omega arith;
-  };
-  sink = refl;
-  chip = refl;
-}
+-- to its end
+pub put : (bytes : List ℕ) (files : FolderView) (old new : SinkView) (chip : ChipView)
+    → Known (λ before after. after ≡ before ++ bytes) old.sent new.sent → new.faults ≡ old.faults
+    → StepDone (Put bytes) (world files old chip) (world files new chip)
+put bytes files old new chip t e = (sent _ files old new chip t (omega (arith, e)), e)
 
 pub take_stored : (name bytes : List ℕ) (f g : FolderView) (s : SinkView) (k : ChipView)
     → Stored name bytes (world f s k) (world g s k)
     → Goes (Take ∷ Store name bytes ∷ []) Done (world f s k) (world g s k)
 take_stored name bytes f g s k t = inl (
   world f s k,
-  (nothing_read (world f s k), inl (world g s k, (t, refl))),
+  (refl, inl (world g s k, (t, refl))),
 )
 
 pub take_unstored : (name bytes : List ℕ) (f g : FolderView) (s : SinkView) (k : ChipView)
     → Unstored name (world f s k) (world g s k)
     → Goes (Take ∷ Store name bytes ∷ []) (Stopped (CannotWrite name)) (world f s k) (world g s k)
-take_unstored name bytes f g s k t = inl (world f s k, (nothing_read (world f s k), inr (refl, t)))
+take_unstored name bytes f g s k t = inl (world f s k, (refl, inr (refl, t)))
 
-pub line_done : (on : Option ChipUse) (bytes : List ℕ) (files : FolderView) (s t : SinkView) (a b : ChipView)
-    → b.faults ≡ a.faults
-    → Known (λ before after. after ≡ before ++ bytes) s.sent t.sent → s.faults ≤ t.faults
+pub line_done : (on : ChipUse) (bytes : List ℕ) (files : FolderView) (s t : SinkView)
+    (a b : ChipView) → b.faults ≡ a.faults → b.banks ≡ banks_after on
+    → Known (λ before after. after ≡ before ++ bytes) s.sent t.sent → t.faults ≡ s.faults
     → Goes (Use on ∷ Put bytes ∷ []) Done (world files s a) (world files t b)
-line_done on bytes files s t a b e p n = inl (
+line_done on bytes files s t a b e left p n = inl (
   world files s b,
-  (
-    used files s a b e,
-    inl (
-      world files t b,
-      (sent (λ before after. after ≡ before ++ bytes) files s t b p n, refl),
-    ),
-  ),
+  (used _ files s a b e left, inl (world files t b, (put bytes files s t b p n, refl))),
 )
 
-pub line_unput : (on : Option ChipUse) (bytes : List ℕ) (files : FolderView) (s t : SinkView) (a b : ChipView)
-    → b.faults ≡ a.faults
+pub line_unput : (on : ChipUse) (bytes : List ℕ) (files : FolderView) (s t : SinkView)
+    (a b : ChipView) → b.faults ≡ a.faults → b.banks ≡ banks_after on
     → Known (AppendsPart bytes) s.sent t.sent → s.faults ≤ t.faults → Rose s.faults t.faults
     → Goes (Use on ∷ Put bytes ∷ []) (Stopped PutFailed) (world files s a) (world files t b)
-line_unput on bytes files s t a b e p n r = inl (
+line_unput on bytes files s t a b e left p n r = inl (
   world files s b,
-  (used files s a b e, inr (refl, sent (AppendsPart bytes) files s t b p n, r)),
+  (used _ files s a b e left, inr (refl, sent (AppendsPart bytes) files s t b p n, r)),
 )
 
 -- a clause at the answer that a test showed

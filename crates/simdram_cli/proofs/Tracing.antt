@@ -14,10 +14,10 @@ use Rattle.simdram_cli.proofs.Common.{banks_at_end, is_refused, replies, rows_pr
 use Rattle.simdram_cli.proofs.Common.{table_at_end, Machine, geometry_of, is_print, program_of}
 use Rattle.simdram_cli.proofs.Common.{table_in, DidAndRead, LiesOn, script_trace, bytes_of_trace}
 use Rattle.simdram_cli.proofs.Common.{trace_bytes, empty_log, recorded, has_begun_below, World}
-use Rattle.simdram_cli.proofs.Common.{world, ChipUse, IsLeftBy, doing, Step, Use, Store, Put}
-use Rattle.simdram_cli.proofs.Common.{Refusal, Reason, Refused, CannotWrite, PutFailed, ChipFailed}
-use Rattle.simdram_cli.proofs.Common.{End, Done, Stopped, Goes, Stored, Unstored, Runs, goes_on}
-use Rattle.simdram_cli.proofs.Common.{stops, runs_answered, runs_stopped, runs_then}
+use Rattle.simdram_cli.proofs.Common.{world, ChipUse, IsLeftBy, Step, Use, Store, Put, Refusal}
+use Rattle.simdram_cli.proofs.Common.{Reason, Refused, CannotWrite, PutFailed, ChipFailed, End}
+use Rattle.simdram_cli.proofs.Common.{Done, Stopped, Goes, Stored, Unstored, Runs, goes_on, stops}
+use Rattle.simdram_cli.proofs.Common.{runs_answered, runs_stopped, runs_then}
 use Rattle.std.specs.Prelude.{Option}
 use Rattle.trace_model.specs.Spelling.{IsEvent}
 use Rattle.trace_model.proofs.Legal.{events_are_legal}
@@ -28,42 +28,43 @@ use Rattle.trace_job.proofs.Going.{steps_are_below}
 use Rattle.cli_model.proofs.Running.{runs_refused}
 use Rattle.simdram_cli.specs.declared.words.TraceNames.{TraceNames}
 use Rattle.simdram_cli.specs.declared.stop.Stop.{Stop}
-use Rattle.simdram_cli.specs.declared.stop.Stop.TheVariants as stop
 use Rattle.simdram_cli.specs.Stops.{reason_of, trace_full}
-use Rattle.simdram_cli.specs.Job.{done_status, instr_steps, piece_steps}
-use Rattle.simdram_cli.specs.Job.{opening, pieces_steps, put_lines, reading}
-use Rattle.simdram_cli.specs.Job.{refused_by, script_steps}
+use Rattle.simdram_cli.specs.Job.{done_status, piece_steps, opening, pieces_steps, put_lines}
+use Rattle.simdram_cli.specs.Job.{reading, refused_by, script_steps}
 use Rattle.simdram_cli.specs.Plans.{script_said}
 use Rattle.simdram_cli.specs.Works.{WorkDone}
 use Rattle.simdram_cli.specs.Tracing.{OpensOn, ScriptRecorded, ScriptTraced, TraceLeft, events_on}
 use Rattle.simdram_cli.specs.Tracing.{fits, full_plan, image_on, reading_on, reads_on}
-use Rattle.simdram_cli.specs.Tracing.{recorded_steps, steps_on}
-use Rattle.simdram_cli.specs.Tracing.{store_steps, total_steps, traced_plan, traced_steps}
-use Rattle.simdram_cli.specs.Tracing.{unless_fits, unlogged}
+use Rattle.simdram_cli.specs.Tracing.{recorded_steps, steps_on, store_steps, total_steps}
+use Rattle.simdram_cli.specs.Tracing.{traced_plan, traced_steps, unless_fits, unlogged}
 use Rattle.simdram_cli.proofs.Performing.{Started, first_are, first_steps, left_by, own_events}
 use Rattle.simdram_cli.proofs.Performing.{own_table, reads_twice, total_is}
 use Rattle.simdram_cli.proofs.Progress.{holds_of}
-use Rattle.simdram_cli.proofs.Stores.{nothing_read, sent, use_broke, used}
+use Rattle.simdram_cli.proofs.Stores.{sent, use_broke, used, put}
+use Rattle.cli_model.specs.Waves.{banks_after}
+use Rattle.cli_model.specs.Steps.{line_steps}
+use Rattle.simdram_cli.specs.declared.stop.Stop.TheVariants as stop
 
 -- a script is done, and the image after it stored
 
-pub image_failed : (on : Option ChipUse) (name bytes : List ℕ) (f : FolderView) (s : SinkView)
+pub image_failed : (on : ChipUse) (name bytes : List ℕ) (f : FolderView) (s : SinkView)
     (a b : ChipView) → a.faults ≤ b.faults → Rose a.faults b.faults → IsLeftBy on b.banks
     → Goes (Use on ∷ Store name bytes ∷ []) (Stopped ChipFailed) (world f s a) (world f s b)
 image_failed on name bytes f s a b l r left = inr (refl, use_broke f s a b l, r, left)
 
-pub image_unstored : (on : Option ChipUse) (name bytes : List ℕ) (f g : FolderView)
-    (s : SinkView) (a b : ChipView) → b.faults ≡ a.faults
+pub image_unstored : (on : ChipUse) (name bytes : List ℕ) (f g : FolderView)
+    (s : SinkView) (a b : ChipView) → b.faults ≡ a.faults → b.banks ≡ banks_after on
     → Unstored name (world f s b) (world g s b)
     → Goes (Use on ∷ Store name bytes ∷ []) (Stopped (CannotWrite name)) (world f s a)
     (world g s b)
-image_unstored on name bytes f g s a b l u = inl (world f s b, (used f s a b l, inr (refl, u)))
+image_unstored on name bytes f g s a b l left u =
+    inl (world f s b, (used _ f s a b l left, inr (refl, u)))
 
-pub image_stored : (on : Option ChipUse) (name bytes : List ℕ) (f g : FolderView) (s : SinkView)
-    (a b : ChipView) → b.faults ≡ a.faults → Stored name bytes (world f s b) (world g s b)
+pub image_stored : (on : ChipUse) (name bytes : List ℕ) (f g : FolderView) (s : SinkView)
+    (a b : ChipView) → b.faults ≡ a.faults → b.banks ≡ banks_after on → Stored name bytes (world f s b) (world g s b)
     → Goes (Use on ∷ Store name bytes ∷ []) Done (world f s a) (world g s b)
-image_stored on name bytes f g s a b l t =
-    inl (world f s b, (used f s a b l, inl (world g s b, (t, refl))))
+image_stored on name bytes f g s a b l left t =
+    inl (world f s b, (used _ f s a b l left, inl (world g s b, (t, refl))))
 
 pub work_stopped : (m : Machine) (banks : Banks) (script : List Instruction) (name : List ℕ)
     (reason : Reason) (a b : World) → Goes (steps_on m banks script) (Stopped reason) a b
@@ -125,8 +126,8 @@ lines_late : (number : ℕ) (said : List Said) → AllByRecursion IsLate (put_li
 lines_late number [] = tt
 lines_late number (s ∷ said) = (tt, lines_late (number + 1) said)
 
-instr_late : (on : Option ChipUse) (prints : Bool) (bytes : List ℕ)
-    → AllByRecursion IsLate (instr_steps on prints bytes)
+instr_late : (on : ChipUse) (prints : Bool) (bytes : List ℕ)
+    → AllByRecursion IsLate (line_steps on prints bytes)
 instr_late on true bytes = (tt, tt)
 instr_late on false bytes = (tt, (tt, tt))
 
@@ -136,7 +137,7 @@ piece_late : (g : Geometry) (o : Routines) (turn : Turn) (table : List Named) (b
 piece_late g o turn table banks number (Wave wave) =
     (tt, lines_late number (said_in_rows g o table banks wave))
 piece_late g o turn table banks number (Alone instr) =
-    instr_late (doing banks (piece_events g o turn table (Alone instr))) (is_print instr)
+    instr_late _ (is_print instr)
     (line number (said_by g o table banks instr))
 
 pub pieces_late : (g : Geometry) (o : Routines) (turn : Turn) (table : List Named) (banks : Banks)
@@ -161,8 +162,8 @@ all_late names program script i =
     (pieces_late i.geometry (routines_in program) Ahead i.table (opened i) 1 (pieces script))
     (tt, (tt, store_late (fits program script i) names.trace.now program script i))
 
-instr_begins : (on : Option ChipUse) (prints : Bool) (bytes : List ℕ) (rest : List Step)
-    → BeginOnChip (instr_steps on prints bytes ++ rest)
+instr_begins : (on : ChipUse) (prints : Bool) (bytes : List ℕ) (rest : List Step)
+    → BeginOnChip (line_steps on prints bytes ++ rest)
 instr_begins on true bytes rest = refl
 instr_begins on false bytes rest = refl
 
@@ -171,11 +172,11 @@ piece_begins : (g : Geometry) (o : Routines) (turn : Turn) (table : List Named) 
     → BeginOnChip (piece_steps g o turn table banks number piece ++ rest)
 piece_begins g o turn table banks number (Wave wave) rest = refl
 piece_begins g o turn table banks number (Alone instr) rest =
-    instr_begins (doing banks (piece_events g o turn table (Alone instr))) (is_print instr)
+    instr_begins _ (is_print instr)
     (line number (said_by g o table banks instr)) rest
 
 -- the first of them uses the chip: that of a script, or without one the reading of the image
-pieces_begin : (on : Option ChipUse) (g : Geometry) (o : Routines) (turn : Turn) (table : List Named) (banks : Banks)
+pieces_begin : (on : ChipUse) (g : Geometry) (o : Routines) (turn : Turn) (table : List Named) (banks : Banks)
     (number : ℕ) (pieces : List Piece) (rest : List Step)
     → BeginOnChip (pieces_steps g o turn table banks number pieces ++ (Use on ∷ rest))
 pieces_begin on g o turn table banks number [] rest = refl
@@ -203,7 +204,7 @@ below : (names : TraceNames) (program : Program) (script : List Instruction) (i 
 below names program script i end files sink old new from to p q r g =
     steps_are_below (recorded_steps names program script i) end (world files sink from) to old new
     (all_late names program script i)
-    (pieces_begin (doing (banks_at_end i.geometry (routines_in program) i.table (opened i) script) [])
+    (pieces_begin _
     i.geometry (routines_in program) Ahead i.table (opened i) 1 (pieces script) _) p q
     r g
 
@@ -418,7 +419,7 @@ pub not_opened : (names : TraceNames) (program : Program) (script : List Instruc
     → ScriptTraced names program script i a b (Err why)
 not_opened names program script i why a b g = inl (inl (
   a,
-  (nothing_read a, stops (opening i ∷ []) _ (reason_of why) a b g),
+  (refl, stops (opening i ∷ []) _ (reason_of why) a b g),
 ))
 
 -- from the opening on
@@ -430,7 +431,7 @@ from_open : (names : TraceNames) (program : Program) (script : List Instruction)
 from_open names program script i end a b c g h = inl (
   a,
   (
-    nothing_read a,
+    refl,
     goes_on (opening i ∷ []) (recorded_steps names program script i
         ++ total_steps (fits program script i) program script i) end a b c g h,
   ),
@@ -498,7 +499,7 @@ pub total_sent : (names : TraceNames) (program : Program) (script : List Instruc
     → Goes (opening i ∷ []) Done a b
     → ScriptRecorded names program script i b (world files s chip) (Ok refused)
     → Known (λ before after. after ≡ before ++ total_line chip.counters refused) s.sent t.sent
-    → s.faults ≤ t.faults
+    → t.faults ≡ s.faults
     → ScriptTraced names program script i a (world files t chip) (Ok refused)
 total_sent names program script i refused a b files s t chip g w p n =
     let mid = world files s chip in
@@ -510,7 +511,7 @@ total_sent names program script i refused a b files s t chip g w p n =
           (total_steps (fits program script i) program script i) Done b mid end w.1
           (total_goes program script i (unlogged chip) refused Done mid end
           (fits_so (fits program script i) w.0) w.2
-          (inl (end, (sent (λ before after. after ≡ before ++ line) files s t chip p n, refl))))),
+          (inl (end, (put line files s t chip p n, refl))))),
       w.2,
     )
 

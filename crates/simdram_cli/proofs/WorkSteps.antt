@@ -4,18 +4,19 @@ use Rattle.simdram_cli.proofs.Common.{Instruction, Program, Routines, routines_i
 use Rattle.simdram_cli.proofs.Common.{Geometry, Banks, Named, Turn, Ahead, Piece, Wave, Alone}
 use Rattle.simdram_cli.proofs.Common.{instrs_in, piece_events, pieces, turn_after, Said, line}
 use Rattle.simdram_cli.proofs.Common.{said_by, said_in_rows, total_line, banks_at_end, table_at_end}
-use Rattle.simdram_cli.proofs.Common.{is_print, ChipUse, doing, Store, Put, OfSteps, of_more}
+use Rattle.simdram_cli.proofs.Common.{is_print, ChipUse, Store, Put, OfSteps, of_more}
 use Rattle.std.specs.Prelude.{Option}
-use Rattle.simdram_cli.specs.Job.{image_by, instr_steps, piece_steps, pieces_steps, put_lines}
-use Rattle.simdram_cli.specs.Job.{reading_by, refused_by, script_steps, tally_by, work_steps}
+use Rattle.simdram_cli.specs.Job.{image_by, piece_steps, pieces_steps, put_lines, reading_by}
+use Rattle.simdram_cli.specs.Job.{refused_by, script_steps, tally_by, work_steps}
+use Rattle.cli_model.specs.Steps.{line_steps}
 
 lines_of : (P : ℕ → Type 0) (number : ℕ) (said : List Said) → P 3
     → OfSteps P (put_lines number said)
 lines_of P number [] three = tt
 lines_of P number (s ∷ said) three = (three, lines_of P (number + 1) said three)
 
-instr_of : (P : ℕ → Type 0) (on : Option ChipUse) (prints : Bool) (bytes : List ℕ) → P 3
-    → P 9 → OfSteps P (instr_steps on prints bytes)
+instr_of : (P : ℕ → Type 0) (on : ChipUse) (prints : Bool) (bytes : List ℕ) → P 3
+    → P 9 → OfSteps P (line_steps on prints bytes)
 instr_of P on true bytes three nine = ((three, nine), tt)
 instr_of P on false bytes three nine = (nine, (three, tt))
 
@@ -25,7 +26,7 @@ piece_of : (P : ℕ → Type 0) (g : Geometry) (o : Routines) (turn : Turn) (tab
 piece_of P g o turn table banks number (Wave wave) three nine =
     (nine, lines_of P number (said_in_rows g o table banks wave) three)
 piece_of P g o turn table banks number (Alone instr) three nine =
-    instr_of P (doing banks (piece_events g o turn table (Alone instr))) (is_print instr)
+    instr_of P _ (is_print instr)
     (line number (said_by g o table banks instr)) three nine
 
 pub pieces_of : (P : ℕ → Type 0) (g : Geometry) (o : Routines) (turn : Turn) (table : List Named)

@@ -108,7 +108,7 @@ image_at_last job =
 
 -- the image is stored, and the lines of the votes and of the totals are sent
 abbrev pub last_steps : List ℕ → GuardJob → List Step
-last_steps out job = reading (banks_at_last job) ∷ Store out (image_at_last job)
+last_steps out job = reading job.image.geometry (banks_at_last job) ∷ Store out (image_at_last job)
     ∷ Put (vote_line (votes_of job) (length job.flips))
     ∷ Put (total_line (tally_of job) (refused_of job)) ∷ []
 

@@ -1,7 +1,7 @@
 -- A job: SCRIPT is done on IMAGE with a program. What is said of it, what stands after it, and its
 -- steps.
-use Rattle.std.specs.Prelude.{ℕ, ◌+◌, ◌*◌, Bool, List, [], ◌∷◌, ◌++◌, length, count_by}
-use Rattle.std.specs.Prelude.{Option, nat_lt, if◌then◌else◌}
+use Rattle.std.specs.Prelude.{ℕ, ◌+◌, ◌*◌, List, [], ◌∷◌, ◌++◌, length, count_by}
+use Rattle.std.specs.Prelude.{nat_lt, if◌then◌else◌}
 use Rattle.dram_model.specs.declared.dram.Counters.{Counters}
 use Rattle.dram_model.specs.declared.geometry.Geometry.{Geometry}
 use Rattle.dram_model.specs.Chip.{Banks, blank_banks}
@@ -12,13 +12,13 @@ use Rattle.machine_model.specs.declared.Reply.{Reply}
 use Rattle.machine_model.specs.Routines.{Program, Routines, routines_in}
 use Rattle.machine_model.specs.Opened.{Image, opened, row_writes, rows_in_banks}
 use Rattle.machine_model.specs.Script.{replies, table_at_end, banks_at_end, sum_of, sum_done}
-use Rattle.machine_model.specs.Script.{rows_loaded, rows_printed, is_refused}
+use Rattle.machine_model.specs.Script.{banks_printed, rows_loaded, rows_printed, is_refused}
 use Rattle.wave_model.specs.Schedule.{Turn, Ahead}
 use Rattle.machine_model.specs.Pieces.{Piece, Wave, Alone, instrs_in, pieces, piece_events}
 use Rattle.machine_model.specs.Pieces.{turn_after, wave_queues}
 use Rattle.machine_model.specs.Report.{Said, said_by, said_in_rows, line, total_line}
-use Rattle.cli_model.specs.Waves.{ChipUse, ChipWave, doing}
-use Rattle.cli_model.specs.Steps.{Step, Store, Open, Use, UseFor, Put, Print}
+use Rattle.cli_model.specs.Waves.{ChipUse, ChipWave, and_reading, doing}
+use Rattle.cli_model.specs.Steps.{Step, Store, Open, Use, UseFor, Put, line_steps}
 use Rattle.sim_machine.specs.Machine.{is_print}
 
 -- what is said of a script by a program
@@ -68,18 +68,13 @@ abbrev pub opening : Image → Step
 opening i = Open (doing (blank_banks i.geometry) (row_writes i))
 
 -- every row of a chip with these banks is read
-abbrev pub reading : Banks → Step
-reading banks = Use (doing banks [])
+abbrev pub reading : Geometry → Banks → Step
+reading g banks = Use (and_reading g.banks (doing banks []))
 
 -- every row is read after a script
 abbrev pub reading_by : Program → List Instruction → Image → Step
 reading_by program script i =
-    reading (banks_at_end i.geometry (routines_in program) i.table (opened i) script)
-
--- the line of a print is sent while the chip is read; each other instruction uses the chip, and
--- then its line is sent
-abbrev pub instr_steps : Option ChipUse → Bool → List ℕ → List Step
-instr_steps on prints bytes = if prints then Print on bytes ∷ [] else Use on ∷ Put bytes ∷ []
+    reading i.geometry (banks_at_end i.geometry (routines_in program) i.table (opened i) script)
 
 -- a wave of bbops under the order in force, on a chip with these banks
 abbrev pub wave_on : Geometry → Routines → Turn → List Named → Banks → List Instruction → ChipWave
@@ -90,14 +85,19 @@ wave_on g operations turn table banks wave = record {
   queue = wave_queues g operations table wave;
 }
 
+-- another instruction, which uses such a chip by itself: a print reads its object's rows
+abbrev pub use_on : Geometry → Routines → Turn → List Named → Banks → Instruction → ChipUse
+use_on g operations turn table banks instr = and_reading (banks_printed g table instr)
+    (doing banks (piece_events g operations turn table (Alone instr)))
+
 -- a wave uses the chip, and then its lines are sent
 abbrev pub piece_steps : Geometry → Routines → Turn → List Named → Banks → ℕ → Piece → List Step
 piece_steps g operations turn table banks number (Wave wave) =
     UseFor (wave_on g operations turn table banks wave)
     ∷ put_lines number (said_in_rows g operations table banks wave)
 piece_steps g operations turn table banks number (Alone instr) =
-    instr_steps (doing banks (piece_events g operations turn table (Alone instr)))
-    (is_print instr) (line number (said_by g operations table banks instr))
+    line_steps (use_on g operations turn table banks instr) (is_print instr)
+    (line number (said_by g operations table banks instr))
 
 -- the steps of pieces, the first line of which has this number
 abbrev pub pieces_steps : Geometry → Routines → Turn → List Named → Banks → ℕ → List Piece

@@ -64,7 +64,7 @@ image_replayed t i = image_bytes t.geometry t.table (rows_in_banks (replayed t.e
 -- the chip begins with the image's rows; the events are done; all rows are read
 abbrev pub replay_steps : Trace → Image → List Step
 replay_steps t i =
-    opening i ∷ Use (doing (opened i) t.events) ∷ reading (replayed t.events i) ∷ []
+    opening i ∷ Use (doing (opened i) t.events) ∷ reading i.geometry (replayed t.events i) ∷ []
 
 -- and then the image of them is stored, and the counters are sent
 abbrev pub events_steps : List ℕ → Trace → Image → List Step

@@ -1,5 +1,5 @@
 -- The command `scan`.
-use Rattle.std.specs.Prelude.{◌≡◌, ℕ, ◌*◌, List, [], ◌∷◌, ◌++◌, Option, Some, None, Result}
+use Rattle.std.specs.Prelude.{◌≡◌, ℕ, ◌*◌, List, [], ◌∷◌, ◌++◌, map, Option, Some, None, Result}
 use Rattle.std.specs.Prelude.{Ok, Err, count_by, codes, decimal}
 use Rattle.std.specs.List.{range_with_len}
 use Rattle.host_edge.specs.Views.{Files, FolderView, Known}
@@ -18,7 +18,8 @@ use Rattle.machine_model.specs.declared.Why.{Why}
 use Rattle.machine_model.specs.Opened.{Image, opened, row_writes, objects_held}
 use Rattle.machine_model.specs.Refusals.{refusal}
 use Rattle.machine_model.specs.Routines.{Program, routines_in}
-use Rattle.machine_model.specs.Pieces.{script_events}
+use Rattle.machine_model.specs.Pieces.{events_of_pieces, piece_of, script_events}
+use Rattle.wave_model.specs.Schedule.{Ahead}
 use Rattle.machine_model.specs.Script.{banks_at_end, replies, sum_of, table_at_end, with_counts}
 use Rattle.scan_model.specs.declared.ScanWhy.{ScanWhy}
 use Rattle.scan_model.specs.Answers.{Answer, Found, Refused as NotFound, answer, query_count}
@@ -29,9 +30,10 @@ use Rattle.scan_model.specs.Operations.{scan_operations, scan_text}
 use Rattle.scan_model.specs.Queries.{Node, Query, matches, nodes_of}
 use Rattle.scan_query.specs.Answers.{answer_of}
 use Rattle.scan_query.specs.Queries.{IsNodesOf}
+use Rattle.scan_query.specs.Running.{until_refused}
 use Rattle.scan_query.specs.declared.query.ScanReply.{ScanReply}
 use Rattle.cli_model.specs.World.{World}
-use Rattle.cli_model.specs.Waves.{ChipUse, doing}
+use Rattle.cli_model.specs.Waves.{ChipUse, and_reading, doing}
 use Rattle.cli_model.specs.Steps.{Step, Take, Use, Put, Done, Stopped, Goes}
 use Rattle.cli_model.specs.Plan.{Answers, Loads, Makes, Plan, Refuses, Then}
 use Rattle.cli_model.specs.Runs.{EndsBy}
@@ -73,13 +75,15 @@ abbrev pub count_line : (found of : ℕ) → Counts → List ℕ
 count_line found of counts = codes "count " ++ decimal found ++ codes " of " ++ decimal of
     ++ codes " aap=" ++ decimal counts.aap ++ codes " ap=" ++ decimal counts.ap ++ codes "\n"
 
--- what the chip is used for by a query: the events of its instructions, on the image
-abbrev pub query_use : Program → Query → Image → Option ChipUse
-query_use program q i = doing (opened i)
-    (script_events i.geometry (routines_in program) i.table (query_script i.table q))
+-- what the chip is used for by a query: on the image, the events of its instructions before the
+-- first that is refused, and the reading of the last object's row
+abbrev pub query_use : Program → Query → Image → ChipUse
+query_use program q i = and_reading (segments_of i.geometry (query_count i.table q))
+    (doing (opened i) (events_of_pieces i.geometry (routines_in program) Ahead i.table (map piece_of
+    (until_refused i.geometry (routines_in program) i.table (query_script i.table q)))))
 
 -- a query whose comparisons are at fault does not use the chip
-abbrev pub use_steps : Option ChipUse → Option (ScanWhy × ℕ) → List Step
+abbrev pub use_steps : ChipUse → Option (ScanWhy × ℕ) → List Step
 use_steps on (Some fault) = []
 use_steps on None = Use on ∷ []
 

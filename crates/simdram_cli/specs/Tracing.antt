@@ -167,7 +167,7 @@ image_on m banks script =
 
 -- every row is read after a script on a machine
 abbrev pub reading_on : Machine → Banks → List Instruction → Step
-reading_on m banks script = reading (after (events_on m script) banks)
+reading_on m banks script = reading (geometry_of m) (after (events_on m script) banks)
 
 -- how many rows are read: those of the prints, and all for the image
 abbrev pub reads_on : Machine → List Instruction → ℕ

@@ -14,6 +14,7 @@ pub(crate) fn put_counted<S: Sink>(word: &[u8], entries: usize, out: &mut S) -> 
     ensures sent { OnOk result (Known (λ before after. after
         ≡ before ++ (word.now ++ decimal entries ++ codes "\n")) (S.view out.old).sent
         (S.view out.new).sent) }
+    ensures unfailed { OnOk result ((S.view out.new).faults ≡ (S.view out.old).faults) }
     ensures part { Known (AppendsPart (word.now ++ decimal entries ++ codes "\n"))
         (S.view out.old).sent (S.view out.new).sent }
     ensures failed { OnErr result (Rose (S.view out.old).faults (S.view out.new).faults) }

@@ -167,7 +167,7 @@ fn finish_guarded<'a, F: Folder, S: Sink, D: Dram>(
     ensures kept { Kept (D.view chip.old) (D.view chip.new) }
     ensures did { OnOk result (DidRead ((geometry_of (machine_in guard.old)).banks
         * (geometry_of (machine_in guard.old)).rows) (D.view chip.old) (D.view chip.new)) }
-    ensures goes { Goes (reading (D.view chip.old).banks
+    ensures goes { Goes (reading (geometry_of (machine_in guard.old)) (D.view chip.old).banks
         ∷ Store name.now (image_bytes (geometry_of (machine_in guard.old))
         (table_in (machine_in guard.old)) (rows_in_banks (D.view chip.old).banks))
         ∷ Put (vote_line outcome.votes flips)

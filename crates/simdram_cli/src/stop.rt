@@ -80,6 +80,7 @@ pub(crate) fn put_three<S: Sink>(
     ensures sent { OnOk result (Known (λ before after. after
         ≡ before ++ (first.now ++ second.now ++ third.now)) (S.view out.old).sent
         (S.view out.new).sent) }
+    ensures unfailed { OnOk result ((S.view out.new).faults ≡ (S.view out.old).faults) }
     ensures part { Known (AppendsPart (first.now ++ second.now ++ third.now)) (S.view out.old).sent
         (S.view out.new).sent }
     ensures failed { OnErr result (Rose (S.view out.old).faults (S.view out.new).faults) }

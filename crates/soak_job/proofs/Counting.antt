@@ -3,9 +3,10 @@ use Rattle.soak_job.proofs.Common.{◌≡◌, ℕ, zero, suc, ◌+◌, ◌*◌, 
 use Rattle.soak_job.proofs.Common.{◌∷◌, ◌++◌, length, map, take, drop, get_or, refl, sym, ap, ◌∙◌}
 use Rattle.soak_job.proofs.Common.{arith, cond, not, Option, Some, None, is_none, sum_by, All}
 use Rattle.soak_job.proofs.Common.{flat_map, range_with_len, AllByRecursion, mod-lt, drop-cons}
-use Rattle.soak_job.proofs.Common.{pow_pos, nat_tests, Kind, Word, WordOp, param, second_kind}
+use Rattle.soak_job.proofs.Common.{pow_pos, nat_tests, Kind, Word, WordOp, param, second_kind, Bool}
+use Rattle.soak_job.proofs.Common.{true, false}
 use Rattle.std.proofs.Common.{set, append_assoc}
-use Rattle.std.specs.Prelude.{Bool, true, false, is_some}
+use Rattle.std.specs.Prelude.{is_some}
 use Rattle.std.proofs.lemmas.List.Elements.{All-from_recursion}
 use Rattle.std.proofs.lemmas.List.Sums.{sum_by-append}
 use Rattle.std.proofs.Math.Nat.{add-mod, mod-eq_of_lt}
@@ -119,17 +120,6 @@ sum_more sum f k all x h e =
     ∙ sym (add-mod (sum + s) (f k) (2 ^ 64))
     ∙ ap (λ y. y % 2 ^ 64) (sym whole)
     ∙ ap (λ y. (sum + y) % 2 ^ 64) (sym more)
-
--- the parameters of one kind more
-pub params_more : (ks : List Kind) (names : List (List ℕ)) (i : ℕ) (k : Kind) (name : List ℕ)
-    → i < length ks → i < length names → k ≡ get_or ks i Word → name ≡ get_or names i []
-    → params_of (take (suc i) ks) names ≡ params_of (take i ks) names ++ param name k ∷ []
-params_more [] names i k name l m e f = absurd (omega arith)
-params_more (j ∷ ks) [] i k name l m e f = absurd (omega arith)
-params_more (j ∷ ks) (n ∷ names) zero k name l m e f =
-    ap (λ x. param n x ∷ []) (sym e) ∙ ap (λ x. param x k ∷ []) (sym f)
-params_more (j ∷ ks) (n ∷ names) (suc i) k name l m e f =
-    ap (λ xs. param n j ∷ xs) (params_more ks names i k name (omega arith) (omega arith) e f)
 
 -- a word and the state after it
 pub drawn_parts : (word next state before : ℕ) → (word, next) ≡ mix_u64 before → before ≡ state

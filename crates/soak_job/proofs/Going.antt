@@ -8,8 +8,7 @@ use Rattle.host_edge.specs.Views.{SinkView}
 use Rattle.faults.specs.Counts.{Rose}
 use Rattle.dram_model.specs.View.{Began}
 use Rattle.dram_model.proofs.EventLaws.{LogIs-more}
-use Rattle.cli_model.specs.Waves.{IsLeftBy, doing}
-use Rattle.cli_model.specs.Steps.{Goes, ReadsOnly, Sent, UseFailed, Used}
+use Rattle.cli_model.specs.Steps.{Goes, Sent, UseFailed, Used}
 use Rattle.soak_job.specs.declared.cases.Case.{Case}
 use Rattle.soak_job.specs.Cases.{soak_cases, source_kinds}
 use Rattle.soak_job.specs.Words.{after_all}
@@ -18,26 +17,14 @@ use Rattle.soak_job.specs.Sums.{case_line, last_line}
 use Rattle.soak_job.specs.OneCase.{CaseDone, IsFileOf, IsProgramOf, RisesLittle}
 use Rattle.soak_job.proofs.Counting.{sum_cons}
 use Rattle.soak_job.specs.declared.job.SoakError.{SoakError}
-use Rattle.soak_job.specs.declared.job.SoakError.TheVariants as no
 use Rattle.soak_job.specs.Steps.{cases_steps}
 use Rattle.soak_job.specs.Done.{CaseWent, CasesDone, CasesGo, SoakGoes, SoakLeft, cases_events}
 use Rattle.soak_job.specs.Done.{end_of}
+use Rattle.soak_job.specs.declared.job.SoakError.TheVariants as no
 
-pub nothing_read : (w : World) → ReadsOnly w w
-nothing_read w = record {
-  files = refl;
-  counts = record {
-    load_faults = λ name. omega arith;
-    store_faults = omega arith;
-    taken = omega arith;
-  };
-  sink = refl;
-  chip = refl;
-}
-
-chip_used : (files : FolderView) (s : SinkView) (a b : ChipView) → b.faults ≡ a.faults
-    → Used (world files s a) (world files s b)
-chip_used files s a b e = record { files = refl; sink = refl; chip = e }
+chip_used : (banks : Banks) (files : FolderView) (s : SinkView) (a b : ChipView)
+    → b.faults ≡ a.faults → b.banks ≡ banks → Used banks (world files s a) (world files s b)
+chip_used banks files s a b e left = record { files = refl; sink = refl; chip = e; left = left }
 
 -- the use of the chip failed
 pub chip_broke : (files : FolderView) (s : SinkView) (a b : ChipView) → a.faults ≤ b.faults
@@ -56,7 +43,7 @@ program_is c bytes f = record { legal = f.legal.entries.0; does = f.does; exact 
 pub case_went : (state : ℕ) (c : Case) (m : Microprogram) (files : FolderView) (s t : SinkView)
     (a b : ChipView) → IsProgramOf c m
     → Known (λ before after. after ≡ before ++ case_line state c m) s.sent t.sent
-    → s.faults ≤ t.faults → CaseDone state c m a b → RisesLittle a.counters b.counters
+    → t.faults ≡ s.faults → CaseDone state c m a b → RisesLittle a.counters b.counters
     → CaseWent state c (world files s a) (world files t b)
 case_went state c m files s t a b is known k done few = record {
   program = m;
@@ -64,16 +51,15 @@ case_went state c m files s t a b is known k done few = record {
   does = λ rest end last g. inl (
     world files s a,
     (
-      nothing_read (world files s a),
+      refl,
       inl (
         world files s b,
         (
-          chip_used files s a b done.faults,
+          chip_used _ files s a b done.faults done.banks,
           inl (
             world files t b,
             (
-              bytes_sent (λ before after. after ≡ before
-                  ++ case_line state c m) files s t b known k,
+              (bytes_sent _ files s t b known (omega (arith, k)), k),
               g,
             ),
           ),
@@ -85,21 +71,10 @@ case_went state c m files s t a b is known k done few = record {
   few = few;
 }
 
--- what stands where the chip failed in a case, as its step says it
-left_by : (events : List Event) (a b : Banks) → StoppedWithin events a b
-    → IsLeftBy (doing a events) b
-left_by events a b s = record {
-  done = s.done;
-  rest = s.left;
-  all = s.all;
-  bank = s.bank;
-  others = s.others;
-}
-
 -- the chip failed in a case
 pub stops_at_use : (state : ℕ) (c : Case) (cs : List Case) (m : Microprogram) (files : FolderView)
     (s : SinkView) (a b : ChipView) → IsProgramOf c m → a.faults ≤ b.faults → Rose a.faults b.faults
-    → StoppedWithin (case_events state c m) a.banks b.banks
+    → StoppedWithin 2 (case_events state c m) a.banks b.banks
     → CasesGo state (c ∷ cs) (world files s a) (world files s b) (Err no.ChipFailed)
 stops_at_use state c cs m files s a b is l rose left = record {
   programs = m ∷ [];
@@ -107,12 +82,12 @@ stops_at_use state c cs m files s a b is l rose left = record {
   goes = inl (
     world files s a,
     (
-      nothing_read (world files s a),
+      refl,
       inr (
         refl,
         chip_broke files s a b l,
         rose,
-        left_by (case_events state c m) a.banks b.banks left,
+        left,
       ),
     ),
   );
@@ -122,20 +97,20 @@ stops_at_use state c cs m files s a b is l rose left = record {
 -- the line of a case could not be put
 pub stops_at_put : (state : ℕ) (c : Case) (cs : List Case) (m : Microprogram) (files : FolderView)
     (s t : SinkView) (a b : ChipView) → IsProgramOf c m → b.faults ≡ a.faults
-    → Known (AppendsPart (case_line state c m)) s.sent t.sent → s.faults ≤ t.faults
+    → b.banks ≡ after (case_events state c m) a.banks → Known (AppendsPart (case_line state c m)) s.sent t.sent → s.faults ≤ t.faults
     → Rose s.faults t.faults
     → CasesGo state (c ∷ cs) (world files s a) (world files t b) (Err no.PutFailed)
-stops_at_put state c cs m files s t a b is e known k rose = record {
+stops_at_put state c cs m files s t a b is e left known k rose = record {
   programs = m ∷ [];
   are = (is, tt);
   goes = inl (
     world files s a,
     (
-      nothing_read (world files s a),
+      refl,
       inl (
         world files s b,
         (
-          chip_used files s a b e,
+          chip_used _ files s a b e left,
           inr (refl, bytes_sent (AppendsPart (case_line state c m)) files s t b known k, rose),
         ),
       ),
@@ -202,14 +177,14 @@ known_last = last_line (length soak_cases)
 
 -- no case is left, and the last line was put
 pub all_known : (state : ℕ) (files : FolderView) (s t : SinkView) (chip : ChipView)
-    → Known (λ before after. after ≡ before ++ known_last) s.sent t.sent → s.faults ≤ t.faults
+    → Known (λ before after. after ≡ before ++ known_last) s.sent t.sent → t.faults ≡ s.faults
     → CasesGo state [] (world files s chip) (world files t chip) (Ok tt)
 all_known state files s t chip known l = record {
   programs = [];
   are = tt;
   goes = inl (
     world files t chip,
-    (bytes_sent (λ before after. after ≡ before ++ known_last) files s t chip known l, refl),
+    ((bytes_sent _ files s t chip known (omega (arith, l)), l), refl),
   );
   done = record {
     all = refl;
@@ -261,7 +236,7 @@ soak_goes seed files s a b last result began e kept go = record {
   goes = inl (
     world files s b,
     (
-      chip_used files s a b e,
+      chip_used _ files s a b e began.banks,
       subst (λ (banks : Banks). Goes (cases_steps seed banks soak_cases go.programs)
           (end_of result) (world files s b) last) began.banks go.goes,
     ),

@@ -90,8 +90,8 @@ pub record SoFar (n : ℕ) (kinds rest : List Kind) (first state row : ℕ) (sta
   pub writes : WritesMore (2 * row) start.counters now.counters
   pub did : (new : ChipView) → Did (source_writes state row n rest) now new
       → Did (source_writes first 0 n kinds) start new
-  pub stops : (last : Banks) → StoppedWithin (source_writes state row n rest) now.banks last
-      → StoppedWithin (source_writes first 0 n kinds) start.banks last
+  pub stops : (last : Banks) → StoppedWithin 0 (source_writes state row n rest) now.banks last
+      → StoppedWithin 0 (source_writes first 0 n kinds) start.banks last
   pub completes : Completes n kinds rest first state row now.banks
   pub after_is : after_all state rest ≡ after_all first kinds
 
@@ -142,7 +142,7 @@ one_more n kinds rest more k first state row start now mid p e so wrote are =
       writes = counted ∙ ap (λ (c : Counters). record c { writes = now.counters.writes + w * 2 })
           here.writes ∙ ap (λ x. record start.counters { writes = x }) sum;
       did = λ new d. here.did new (Did-more _ _ now mid new wrote d);
-      stops = λ last s. here.stops last (stopped_later (write_events soak_chip row w
+      stops = λ last s. here.stops last (stopped_later 0 (write_events soak_chip row w
           (values_of state w)) (source_writes (following state elements) (row + w) n more)
           now.banks mid.banks last wrote.banks s);
       completes = λ banks low more_are. here.completes banks
@@ -185,16 +185,16 @@ pub source_failed : (n : ℕ) (kinds rest more : List Kind) (values : List ℕ) 
     (first state row w : ℕ) (start now : ChipView) (last : Banks) → rest ≡ k ∷ more
     → w ≡ width k n → values ≡ values_of state w
     → SoFar n kinds rest first state row start now
-    → StoppedWithin (write_events soak_chip row w values) now.banks last
-    → StoppedWithin (source_writes first 0 n kinds) start.banks last
+    → StoppedWithin 0 (write_events soak_chip row w values) now.banks last
+    → StoppedWithin 0 (source_writes first 0 n kinds) start.banks last
 source_failed n kinds rest more values k first state row w start now last e ew ev so s =
-    let own : StoppedWithin (write_events soak_chip row (width k n)
+    let own : StoppedWithin 0 (write_events soak_chip row (width k n)
     (values_of state (width k n))) now.banks last =
-    subst (λ x. StoppedWithin (write_events soak_chip row x (values_of state x)) now.banks last) ew
-    (subst (λ (vs : List ℕ). StoppedWithin (write_events soak_chip row w vs) now.banks last) ev
+    subst (λ x. StoppedWithin 0 (write_events soak_chip row x (values_of state x)) now.banks last) ew
+    (subst (λ (vs : List ℕ). StoppedWithin 0 (write_events soak_chip row w vs) now.banks last) ev
     s) in
-    so.stops last (subst (λ (ks : List Kind). StoppedWithin (source_writes state row n ks)
-    now.banks last) (sym e) (stopped_before _ (source_writes (following state elements)
+    so.stops last (subst (λ (ks : List Kind). StoppedWithin 0 (source_writes state row n ks)
+    now.banks last) (sym e) (stopped_before 0 _ (source_writes (following state elements)
     (row + width k n) n more) now.banks last own))
 
 -- rows for one source more

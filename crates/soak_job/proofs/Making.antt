@@ -1,8 +1,7 @@
 -- The file of a case's program.
 use Rattle.soak_job.proofs.Common.{◌≡◌, ℕ, List, [], ◌∷◌, Result, Ok, Err, IfOk, OnOk, OnErr}
 use Rattle.soak_job.proofs.Common.{WordOp, Microprogram, ImplementsAll, text_op, AreExact}
-use Rattle.soak_job.proofs.Common.{program_bytes}
-use Rattle.std.specs.Prelude.{true, false}
+use Rattle.soak_job.proofs.Common.{program_bytes, true, false}
 use Rattle.std.specs.Result.{is_err}
 use Rattle.uprog_code.specs.Programs.{IsProgram}
 use Rattle.soak_job.specs.Cases.{one_statement}

@@ -3,10 +3,11 @@ use Rattle.soak_job.proofs.Common.{◌≡◌, [], ◌∷◌, refl, WordOp, secon
 use Rattle.std.proofs.Common.{None}
 use Rattle.op_text.specs.Rules.{breach_of}
 use Rattle.op_text.specs.Spelling.{MeetRules}
-use Rattle.op_text.specs.declared.word_ops.WordOp.TheVariants as o
 use Rattle.soak_job.specs.Cases.{one_statement}
+use Rattle.grammar.specs.Machine as machine
+use Rattle.op_text.specs.declared.word_ops.WordOp.TheVariants as o
 
 pub rules_met : (op : WordOp) → second_kind op ≡ None → MeetRules (one_statement op ∷ [])
-unfolding breach_of
+unfolding machine.breach_of
 rules_met o.Divmod e = cc
 rules_met op e = refl

@@ -1,12 +1,10 @@
 -- A case's program in both banks.
 use Rattle.soak_job.proofs.Common.{◌≡◌, ℕ, zero, suc, ◌*◌, ◌<◌, ◌≤◌, List, [], ◌∷◌, ◌++◌, ap, ◌∙◌}
-use Rattle.soak_job.proofs.Common.{subst, sym, arith, append-nil, take, drop, Result, Ok, Err, OnOk}
-use Rattle.soak_job.proofs.Common.{OnErr, All, WIDTH_MAX, Geometry, Banks, Event, after, ChipView}
-use Rattle.soak_job.proofs.Common.{Did, DidRead, Grew-more, after-append, StoppedWithin}
-use Rattle.soak_job.proofs.Common.{stopped_before, stopped_later, Fits, Microprogram, Shape, bound}
-use Rattle.soak_job.proofs.Common.{trace, issues_of, StoppedAmong, wave_events, Queues, in_turn}
-use Rattle.soak_job.proofs.Common.{Ahead}
-use Rattle.std.proofs.lemmas.List.{take-append-drop}
+use Rattle.soak_job.proofs.Common.{subst, sym, arith, append-nil, Result, Ok, Err, OnOk, OnErr, All}
+use Rattle.soak_job.proofs.Common.{WIDTH_MAX, Geometry, Banks, Event, after, ChipView, Did, DidRead}
+use Rattle.soak_job.proofs.Common.{Grew-more, after-append, StoppedWithin, stopped_before}
+use Rattle.soak_job.proofs.Common.{stopped_later, Fits, Microprogram, Shape, bound, trace}
+use Rattle.soak_job.proofs.Common.{issues_of, StoppedAmong, wave_events, Queues, in_turn, Ahead}
 use Rattle.std.proofs.lemmas.List.Elements.{All-cons, All-nil}
 use Rattle.dram_model.specs.Chip.{Grew}
 use Rattle.dram_model.specs.View.{with_reads}
@@ -23,6 +21,7 @@ use Rattle.soak_job.specs.Cases.{source_kinds}
 use Rattle.soak_job.specs.Sums.{in_both_banks}
 use Rattle.soak_job.specs.OneCase.{CaseDone, IsProgramOf, WritesMore}
 use Rattle.soak_job.proofs.CaseFits.{case_fits}
+use Rattle.transpose_unit.proofs.Stopping.{stopped_at, stopped_more}
 
 abbrev job_of : Microprogram → Binding → BoundJob
 job_of m b = record { shape = m.shape; code = m.code; binding = b; banks = 2 }
@@ -89,42 +88,43 @@ case_done state c m a b d e wrote writes ran counts read =
           (Grew-more a.log b.log d.log writes_are wave wrote.log ran.log) read.log);
     }
 
--- where the chip fails in its wave, every bank but one stands where a first part of it leaves it
+-- where the chip fails in its wave, every bank but the command's stands where those before leave it
 pub within_wave : (events : List Event) (qs : Queues) (a b : ChipView)
-    → StoppedAmong events qs a b → StoppedWithin events a.banks b.banks
-within_wave events qs a b s = record {
-  done = take s.done events;
-  left = drop s.done events;
-  all = take-append-drop s.done events;
-  bank = s.bank;
-  others = s.others;
-}
+    → StoppedAmong events qs a b → StoppedWithin 0 events a.banks b.banks
+within_wave events qs a b s =
+    stopped_at events s.done s.bank s.command a.banks b.banks s.failed s.others
 
 abbrev case_wave : Case → Microprogram → List Event
 case_wave c m = wave_events in_turn 2 Ahead (case_queues c m)
 
 -- and so in the writes of its sources, in the wave after them, or in the reading
 pub writes_failed : (state : ℕ) (c : Case) (m : Microprogram) (a b : Banks)
-    → StoppedWithin (source_writes state 0 c.n (source_kinds c.op)) a b
-    → StoppedWithin (case_events state c m) a b
-writes_failed state c m a b s = stopped_before (source_writes state 0 c.n (source_kinds c.op))
+    → StoppedWithin 0 (source_writes state 0 c.n (source_kinds c.op)) a b
+    → StoppedWithin 2 (case_events state c m) a b
+writes_failed state c m a b s = stopped_before 2 (source_writes state 0 c.n (source_kinds c.op))
     (case_wave c m) a b s
+
+after_writes : (state : ℕ) (c : Case) (m : Microprogram) (a b : ChipView) (d : Banks)
+    → Did (source_writes state 0 c.n (source_kinds c.op)) a b
+    → StoppedWithin 2 (case_wave c m) b.banks d → StoppedWithin 2 (case_events state c m) a.banks d
+after_writes state c m a b d wrote s =
+    stopped_later 2 (source_writes state 0 c.n (source_kinds c.op)) (case_wave c m) a.banks b.banks
+    d wrote.banks s
 
 pub wave_failed : (state : ℕ) (c : Case) (m : Microprogram) (a b : ChipView) (d : Banks)
     → Did (source_writes state 0 c.n (source_kinds c.op)) a b
-    → StoppedWithin (case_wave c m) b.banks d
-    → StoppedWithin (case_events state c m) a.banks d
+    → StoppedWithin 0 (case_wave c m) b.banks d
+    → StoppedWithin 2 (case_events state c m) a.banks d
 wave_failed state c m a b d wrote s =
-    stopped_later (source_writes state 0 c.n (source_kinds c.op)) (case_wave c m) a.banks b.banks
-    d wrote.banks s
+    after_writes state c m a b d wrote (stopped_more 2 (case_wave c m) b.banks d s)
 
 pub reading_failed : (state : ℕ) (c : Case) (m : Microprogram) (a b d : ChipView) (e : Banks)
     → Did (source_writes state 0 c.n (source_kinds c.op)) a b → Did (case_wave c m) b d
-    → StoppedWithin [] d.banks e → StoppedWithin (case_events state c m) a.banks e
+    → StoppedWithin 2 [] d.banks e → StoppedWithin 2 (case_events state c m) a.banks e
 reading_failed state c m a b d e wrote ran s =
-    wave_failed state c m a b e wrote
-    (subst (λ (es : List Event). StoppedWithin es b.banks e) (append-nil (case_wave c m))
-    (stopped_later (case_wave c m) [] b.banks d.banks e ran.banks s))
+    after_writes state c m a b e wrote
+    (subst (λ (es : List Event). StoppedWithin 2 es b.banks e) (append-nil (case_wave c m))
+    (stopped_later 2 (case_wave c m) [] b.banks d.banks e ran.banks s))
 
 pub on_err : {T E P Q : Type 0} (r : Result T E) → OnErr r P → (P → Q) → OnErr r Q
 on_err (Ok x) p f = tt

@@ -1,8 +1,7 @@
 -- A program file has less than 2^32 bytes.
 use Rattle.soak_job.proofs.Common.{◌≡◌, ℕ, ◌+◌, ◌*◌, ◌<◌, ◌≤◌, List, [], ◌∷◌, ◌++◌, length}
 use Rattle.soak_job.proofs.Common.{flat_map, ap, arith, AllByRecursion, length-append, Microprogram}
-use Rattle.soak_job.proofs.Common.{program_bytes}
-use Rattle.std.specs.Prelude.{◌^◌}
+use Rattle.soak_job.proofs.Common.{program_bytes, ◌^◌}
 use Rattle.std.specs.Int.{to_le_bytes, w16, w32}
 use Rattle.file_fields.specs.Fields.{name_bytes}
 use Rattle.file_fields.proofs.Padded.{name_size}

@@ -6,7 +6,7 @@ use Rattle.dram_model.specs.View.{ChipView, HasBegun}
 use Rattle.op_text.specs.WordOps.{second_kind}
 use Rattle.uprog_code.specs.Shape.{Microprogram}
 use Rattle.cli_model.specs.World.{World}
-use Rattle.cli_model.specs.Waves.{doing}
+use Rattle.cli_model.specs.Waves.{and_reading, doing}
 use Rattle.cli_model.specs.Steps.{Step, Take, Use, Put, End, Done, Stopped, NoMemory, ChipFailed}
 use Rattle.cli_model.specs.Steps.{PutFailed, Goes}
 use Rattle.soak_job.specs.declared.job.SoakError.{SoakError}
@@ -96,7 +96,7 @@ pub record CaseWent (state : ℕ) (c : Case) (old new : World) : Type 0 where
   pub program : Microprogram
   pub is : IsProgramOf c program
   pub does : (rest : List Step) (end : End) (last : World) → Goes rest end new last
-      → Goes (Take ∷ Use (doing old.chip.banks (case_events state c program))
+      → Goes (Take ∷ Use (and_reading 2 (doing old.chip.banks (case_events state c program)))
       ∷ Put (case_line state c program) ∷ rest) end old last
   pub done : CaseDone state c program old.chip new.chip
   pub few : RisesLittle old.chip.counters new.chip.counters

@@ -2,7 +2,7 @@
 use Rattle.std.specs.Prelude.{ℕ, List, [], ◌∷◌, length}
 use Rattle.uprog_code.specs.Shape.{Microprogram}
 use Rattle.dram_model.specs.Chip.{Banks, after, blank_banks}
-use Rattle.cli_model.specs.Waves.{doing}
+use Rattle.cli_model.specs.Waves.{and_reading, doing}
 use Rattle.cli_model.specs.Steps.{Step, Take, Open, Use, Put}
 use Rattle.soak_job.specs.declared.cases.Case.{Case}
 use Rattle.soak_job.specs.Cases.{soak_cases, source_kinds}
@@ -24,7 +24,7 @@ abbrev pub cases_steps : (state : ℕ) → Banks → List Case → List Micropro
 cases_steps state banks [] ms = Put (last_line (length soak_cases)) ∷ []
 cases_steps state banks (c ∷ cs) [] = Take ∷ []
 cases_steps state banks (c ∷ cs) (m ∷ ms) =
-    Take ∷ Use (doing banks (case_events state c m)) ∷ Put (case_line state c m)
+    Take ∷ Use (and_reading 2 (doing banks (case_events state c m))) ∷ Put (case_line state c m)
     ∷ cases_steps (after_all state (source_kinds c.op)) (after (case_events state c m) banks) cs ms
 
 -- the chip begins, and all cases follow, with the generator whose first state is the seed

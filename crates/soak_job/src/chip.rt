@@ -112,7 +112,7 @@ fn run_case<D: Dram>(chip: &mut D, case: Case, entry: Entry<'_>) -> Result<(), C
         ≡ map (run (bound 512 entry.entry.shape case.n (layout case)
         (issues_at case (program_of entry.entry)))) ((D.view chip.old).banks bank)) }
     ensures failed { OnErr result (Rose (D.view chip.old).faults (D.view chip.new).faults) }
-    ensures left { OnErr result (StoppedWithin (wave_events in_turn 2 Ahead
+    ensures left { OnErr result (StoppedWithin 0 (wave_events in_turn 2 Ahead
         (case_queues case (program_of entry.entry))) (D.view chip.old).banks
         (D.view chip.new).banks) }
 {
@@ -158,7 +158,7 @@ pub fn do_case<D: Dram>(
         (source_kinds case.op)) }
     ensures failed { OnErr result (Rose (D.view chip.old).faults (D.view chip.new).faults) }
     ensures left { OnErr result ((f : IsFileOf case.op file.now)
-        → StoppedWithin (case_events generator.old case f.program) (D.view chip.old).banks
+        → StoppedWithin 2 (case_events generator.old case f.program) (D.view chip.old).banks
         (D.view chip.new).banks) }
 {
     let entry = own_entry(file);

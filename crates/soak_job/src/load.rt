@@ -54,7 +54,7 @@ pub(crate) fn load_sources<D: Dram>(
         (D.view chip.old).counters (D.view chip.new).counters) }
     ensures following { OnOk result (generator.new ≡ after_all generator.old kinds.now) }
     ensures failed { OnErr result (Rose (D.view chip.old).faults (D.view chip.new).faults) }
-    ensures left { OnErr result (StoppedWithin (source_writes generator.old 0 n kinds.now)
+    ensures left { OnErr result (StoppedWithin 0 (source_writes generator.old 0 n kinds.now)
         (D.view chip.old).banks (D.view chip.new).banks) }
 {
     let mut row = 0;

@@ -43,7 +43,7 @@ fn add_bank<D: Dram>(chip: &mut D, bank: u16, base: u16, n: u8, sum: u64) -> Res
     ensures sum { IfOk result (λ all. all ≡ (sum + sum_by (number base n)
         ((D.view chip.old).banks bank)) % 2 ^ 64) }
     ensures failed { OnErr result (Rose (D.view chip.old).faults (D.view chip.new).faults) }
-    ensures left { OnErr result (StoppedWithin [] (D.view chip.old).banks
+    ensures left { OnErr result (StoppedWithin 2 [] (D.view chip.old).banks
         (D.view chip.new).banks) }
 {
     let mut stage = [0; STAGE_WORDS];
@@ -64,7 +64,7 @@ pub(crate) fn sum_of<D: Dram>(chip: &mut D, base: u16, n: u8) -> Result<u64, Chi
     ensures sum { IfOk result (λ all. all ≡ sum_by (number base n)
         (below 2 (D.view chip.old).banks) % 2 ^ 64) }
     ensures failed { OnErr result (Rose (D.view chip.old).faults (D.view chip.new).faults) }
-    ensures left { OnErr result (StoppedWithin [] (D.view chip.old).banks
+    ensures left { OnErr result (StoppedWithin 2 [] (D.view chip.old).banks
         (D.view chip.new).banks) }
 {
     let first = add_bank(chip, 0, base, n, 0)?;

@@ -38,8 +38,8 @@ pub use Rattle.object_steps.proofs.Filled.{on_err}
 pub use Rattle.object_steps.specs.declared.fault.StepFault.{StepFault}
 pub use Rattle.object_steps.specs.declared.fault.StepFault.TheVariants.{ChipFault, WriteFault}
 pub use Rattle.sim_machine.proofs.Stepping.{if_same}
-pub use Rattle.sim_machine.specs.Machine.{geometry_of, operations_by, program_of, reply_of}
-pub use Rattle.sim_machine.specs.Machine.{table_in, turn_in}
+pub use Rattle.sim_machine.specs.Machine.{geometry_of, is_print, operations_by, program_of}
+pub use Rattle.sim_machine.specs.Machine.{reply_of, table_in, turn_in}
 pub use Rattle.sim_machine.specs.Steps.{DidAndRead}
 pub use Rattle.sim_machine.specs.declared.machine.Machine.{Machine}
 pub use Rattle.std.proofs.Common.{Bool, List, None, Option, Some, [], add-one, ap, append-nil}

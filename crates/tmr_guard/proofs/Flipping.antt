@@ -1,8 +1,8 @@
 -- A read, one bit inverted, and a write.
 use Rattle.tmr_guard.proofs.Common.{◌≡◌, ℕ, List, [], ◌∷◌, Bool, ◌∙◌, ap, subst, OnOk, OnErr, Event}
 use Rattle.tmr_guard.proofs.Common.{Grew, after, ChipView, Did, DidRead, FailedIn, Did-more}
-use Rattle.tmr_guard.proofs.Common.{Grew-more, Banks, Write, Flip, with_bit_inverted}
-use Rattle.std.proofs.Common.{Result, Ok, Err}
+use Rattle.tmr_guard.proofs.Common.{Grew-more, Banks, Write, Flip, with_bit_inverted, Result, Ok}
+use Rattle.tmr_guard.proofs.Common.{Err}
 use Rattle.dram_model.specs.Chip.{SameBut, happens, row_in}
 use Rattle.guard_model.specs.Flips.{flipped}
 use Rattle.guard_model.proofs.Flips.{flip_is_write}

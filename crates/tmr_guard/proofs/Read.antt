@@ -1,7 +1,7 @@
 -- Flips, as they are read.
 use Rattle.tmr_guard.proofs.Common.{◌≡◌, ℕ, ◌+◌, ◌≤◌, Bool, true, false, List, [], ◌∷◌, ◌++◌}
 use Rattle.tmr_guard.proofs.Common.{length, Option, Some, None, arith, option_map, Geometry, Flip}
-use Rattle.std.proofs.Common.{Result, Ok, Err}
+use Rattle.tmr_guard.proofs.Common.{Result, Ok, Err}
 use Rattle.std.specs.List.{AllByRecursion}
 use Rattle.text_lex.specs.Lexical.{Item, items_of, items_from, IsRight}
 use Rattle.bbop_isa.specs.Lines.{lines_of}

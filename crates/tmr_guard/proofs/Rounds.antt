@@ -6,8 +6,8 @@ use Rattle.tmr_guard.proofs.Common.{append-nil, add-one, slice_get, map-append, 
 use Rattle.tmr_guard.proofs.Common.{row_events, Named, segments, job_events, ChipView, Did}
 use Rattle.tmr_guard.proofs.Common.{Did-more, stranger_from, first_stranger, is_first, is_copy}
 use Rattle.tmr_guard.proofs.Common.{y_letter, z_letter, row_vote, votes, vote_job, vote_events}
-use Rattle.tmr_guard.proofs.Common.{vote_count}
-use Rattle.std.specs.Prelude.{All, ◌-◌, ◌/◌}
+use Rattle.tmr_guard.proofs.Common.{vote_count, ◌-◌, ◌/◌}
+use Rattle.std.specs.Prelude.{All}
 use Rattle.std.proofs.lemmas.List.{take_all}
 use Rattle.dram_model.specs.declared.address.Command.{Command}
 use Rattle.object_alloc.specs.Free.{end_of}

@@ -14,7 +14,7 @@ use Rattle.dram_model.specs.declared.address.Command.TheVariants.{Ap, Aap}
 use Rattle.dram_model.specs.Chip.{all_counted, counted}
 use Rattle.dram_model.specs.Chip.Event.{Row}
 use Rattle.dram_model.specs.View.{with_reads}
-use Rattle.dram_model.proofs.EventLaws.{all_counted-append, Grew-none}
+use Rattle.dram_model.proofs.EventLaws.{all_counted-append}
 use Rattle.wave_model.specs.Schedule.{queues, last_state, state_after, events_of_picks, picks}
 use Rattle.wave_model.specs.Schedule.{whole_picks, in_turn}
 use Rattle.machine_model.specs.Steps.{job_of, own_events, table_after}
@@ -51,22 +51,6 @@ did_more es fs n m a b c d e = record {
   faults = e.faults ∙ d.faults;
   log = Grew-more a.log b.log c.log es fs d.log e.log;
 }
-
-no_reads : (k : Counters) → k ≡ with_reads 0 k
-no_reads k = let e : k.reads ≡ k.reads + 0 = omega arith in rw (← e) refl
-
-pub did_none : (a : ChipView) → DidAndRead [] 0 a a
-did_none a = record {
-  banks = refl;
-  counters = no_reads a.counters;
-  faults = refl;
-  log = Grew-none a.log;
-}
-
--- none
-pub ran_none : (g : Geometry) (p : Program) (turn : Turn) (table : List Named) (a : ChipView)
-    → Ran g p turn turn table table [] a a
-ran_none g p turn table a = record { tables = refl; turns = refl; did = did_none a }
 
 -- one
 pub plus_none : (n : ℕ) → n ≡ n + 0

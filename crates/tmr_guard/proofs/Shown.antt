@@ -2,14 +2,13 @@
 use Rattle.tmr_guard.proofs.Common.{◌≡◌, ℕ, ◌*◌, ◌≤◌, false, cond, List, [], ◌∷◌, ◌++◌, Option}
 use Rattle.tmr_guard.proofs.Common.{Some, None, refl, sym, ◌∙◌, ap, subst, arith, append-nil}
 use Rattle.tmr_guard.proofs.Common.{is_none, SinkView, Rose, ChipView, DidRead, StoppedWithin}
-use Rattle.tmr_guard.proofs.Common.{stopped_before, WALK_MAX, Counts, Place, Instruction, Init}
-use Rattle.tmr_guard.proofs.Common.{Bbop, Load, Fill, Print, Free, Order, StepFault, ChipFault}
-use Rattle.tmr_guard.proofs.Common.{WriteFault, Reply, Done, Refused, Why, refusal, reply_by}
-use Rattle.tmr_guard.proofs.Common.{if_done, rows_printed, sum_done, piece_of, piece_events}
-use Rattle.tmr_guard.proofs.Common.{Machine, geometry_of, operations_by, program_of, table_in}
-use Rattle.tmr_guard.proofs.Common.{turn_in, reply_of, DidAndRead, if_same, x_letter, joined}
-use Rattle.tmr_guard.proofs.Common.{place_on, none_yet, script_done, script_for, script_refused}
-use Rattle.std.specs.Prelude.{take}
+use Rattle.tmr_guard.proofs.Common.{WALK_MAX, Counts, Place, Instruction, Print, StepFault}
+use Rattle.tmr_guard.proofs.Common.{ChipFault, WriteFault, Reply, Done, Refused, Why, refusal}
+use Rattle.tmr_guard.proofs.Common.{reply_by, if_done, rows_printed, sum_done, piece_of}
+use Rattle.tmr_guard.proofs.Common.{piece_events, Machine, geometry_of, operations_by, program_of}
+use Rattle.tmr_guard.proofs.Common.{table_in, turn_in, reply_of, DidAndRead, if_same, x_letter}
+use Rattle.tmr_guard.proofs.Common.{joined, place_on, none_yet, script_done, script_for}
+use Rattle.tmr_guard.proofs.Common.{script_refused, take, is_print, map, Event, events_of_pieces}
 use Rattle.host_edge.specs.Views.{Known, AppendsPart}
 use Rattle.host_edge.proofs.Tells.{Known-trans}
 use Rattle.object_steps.specs.Lines.{DidReadAtMost, values_of}
@@ -19,12 +18,13 @@ use Rattle.machine_model.specs.Refusals.{rows_of}
 use Rattle.machine_model.specs.Report.{line, place_text, said_of}
 use Rattle.machine_model.specs.Report.Said.{Answered, Printed}
 use Rattle.object_steps.specs.Objects.{RisesAtMost}
-use Rattle.sim_machine.specs.Machine.{is_print, line_shown, reads_by}
+use Rattle.sim_machine.specs.Machine.{line_shown, reads_by, banks_read}
 use Rattle.sim_machine.proofs.Rising.{rises_less}
-use Rattle.sim_machine.proofs.Stepping.{no_part, print_table}
-use Rattle.tmr_guard.specs.Steps.{Broke, Guarded, RanBy, line_by, reply_by as answer_by}
-use Rattle.tmr_guard.specs.Steps.{events_by, reads_by as guard_reads, script_by}
+use Rattle.sim_machine.proofs.Stepping.{no_part, print_table, said_answered}
+use Rattle.tmr_guard.specs.Steps.{Broke, Guarded, RanBy, line_by, reply_by as answer_by, events_by}
+use Rattle.tmr_guard.specs.Steps.{reads_by as guard_reads, script_by, banks_read_by}
 use Rattle.tmr_guard.proofs.Runs.{plus_none, ran_one}
+use Rattle.transpose_unit.proofs.Stopping.{stopped_more}
 
 -- a reply that is done, or a refusal, tells of the conditions
 done_is : (r : Option Why) (c d : Counts) → Done d ≡ reply_by r c → r ≡ None
@@ -120,9 +120,9 @@ module _ (m new : Machine) (number : ℕ) (place k : Place) (chip chip' : ChipVi
         → table_in new ≡ table_in m → turn_in new ≡ turn_in m
         → DidRead (reads_by m (Print k)) chip chip'
         → RisesAtMost (16 * WIDTH_MAX) chip.counters chip'.counters
-        → Known (λ x y. y ≡ x ++ text) sink.sent sink'.sent
+        → Known (λ x y. y ≡ x ++ text) sink.sent sink'.sent → sink'.faults ≡ sink.faults
         → Guarded m new number (Print place) chip chip' sink sink' reply
-    print_shown reply d e h table turn did rises sent =
+    print_shown reply d e h table turn did rises sent unfailed =
         let allowed : why_not ≡ None = done_is why_not _ d (sym h ∙ e) in
         record {
           answer = e ∙ sym reply_is;
@@ -134,6 +134,7 @@ module _ (m new : Machine) (number : ℕ) (place k : Place) (chip chip' : ChipVi
               (omega arith) rises;
           sent = subst (λ t. Known (λ x y. y ≡ x ++ t) sink.sent sink'.sent)
               (whole_line allowed) sent;
+          unfailed = unfailed;
         }
 
     pub print_refused : (reply : Reply) (w : Why) (between : SinkView)
@@ -143,8 +144,9 @@ module _ (m new : Machine) (number : ℕ) (place k : Place) (chip chip' : ChipVi
         → RisesAtMost (16 * WIDTH_MAX) chip.counters chip'.counters
         → Known (λ x y. y ≡ x ++ text) sink.sent between.sent
         → Known (λ x y. y ≡ x ++ line number (Answered reply)) between.sent sink'.sent
+        → sink'.faults ≡ sink.faults
         → Guarded m new number (Print place) chip chip' sink sink' reply
-    print_refused reply w between e h table turn did rises first sent =
+    print_refused reply w between e h table turn did rises first sent unfailed =
         let refused : why_not ≡ Some w = refused_is why_not _ w (sym h ∙ e) in
         let none : reads_by m (Print k) ≡ 0 = no_reads why_not w _ refused in
         let quiet : DidRead 0 chip chip' = subst (λ n. DidRead n chip chip') none did in
@@ -169,12 +171,14 @@ module _ (m new : Machine) (number : ℕ) (place k : Place) (chip chip' : ChipVi
               (λ x y z p q. q ∙ ap (λ t. t ++ line number (Answered reply))
               (nothing_more x y text (no_text w refused) p)
               ∙ ap (λ t. x ++ t) (refused_line reply w e h)) first sent;
+          unfailed = unfailed;
         }
 
     -- where a call fails
     pub print_broke : (fault : StepFault) → why_not ≡ None
         → (fault ≡ ChipFault → Rose chip.faults chip'.faults)
-        → (fault ≡ ChipFault → StoppedWithin [] chip.banks chip'.banks)
+        → (fault ≡ ChipFault
+        → StoppedWithin (banks_read m (Print k)) [] chip.banks chip'.banks)
         → (fault ≡ WriteFault → Rose sink.faults sink'.faults)
         → (fault ≡ WriteFault → DidReadAtMost (reads_by m (Print k)) chip chip')
         → Known (AppendsPart text) sink.sent sink'.sent
@@ -183,9 +187,16 @@ module _ (m new : Machine) (number : ℕ) (place k : Place) (chip chip' : ChipVi
         let reads : guard_reads m (Print place) ≡ reads_by m (Print k) =
         ap (sum_done rows_printed (geometry_of m) (operations_by m) (table_in m))
         (script_shown allowed) ∙ sym (plus_none (reads_by m (Print k))) in
+        let quiet : events_by m (Print place) ≡ [] =
+        ap (λ (xs : List Instruction). events_of_pieces (geometry_of m) (operations_by m) (turn_in m)
+        (table_in m) (map piece_of xs)) (script_shown allowed) ∙ append-nil _
+        ∙ if_same why_not [] in
         record {
           chip_rose = chip_rose;
-          left = λ e. stopped_before [] (events_by m (Print place)) chip.banks chip'.banks (left e);
+          left = λ e. subst (λ (p : Place). StoppedWithin (banks_read m (Print p))
+              (events_by m (Print place)) chip.banks chip'.banks) is
+              (subst (λ (es : List Event). StoppedWithin (banks_read m (Print k)) es chip.banks
+              chip'.banks) (sym quiet) (left e));
           sink_rose = sink_rose;
           unsent = λ e p. absurd (cc);
           done = λ e p. absurd (cc);
@@ -224,18 +235,6 @@ module _ (m new : Machine) (number : ℕ) (place k : Place) (chip chip' : ChipVi
               (nothing_more x y text (no_text w refused) p) q)) first part;
         }
 
--- of an instruction but a print the reply is said
-pub said_answered : (reply : Reply) (instr : Instruction) (values : Place → List ℕ)
-    → is_print instr ≡ false → said_of reply instr values ≡ Answered reply
-said_answered (Refused w) instr values h = refl
-said_answered (Done k) (Print place) values h = cc
-said_answered (Done k) (Init name count n) values h = refl
-said_answered (Done k) (Bbop op dst srcs count n) values h = refl
-said_answered (Done k) (Load place loaded) values h = refl
-said_answered (Done k) (Fill place value) values h = refl
-said_answered (Done k) (Free name) values h = refl
-said_answered (Done k) (Order order) values h = refl
-
 pub line_is : (m : Machine) (number : ℕ) (chip : ChipView) (instr : Instruction) (reply : Reply)
     → is_print instr ≡ false → reply ≡ answer_by m instr
     → line number (Answered reply) ≡ line_by m number chip.banks instr
@@ -246,11 +245,11 @@ line_is m number chip instr reply h e =
 -- the chip failed, and nothing was put
 pub silent_broke : (m : Machine) (number : ℕ) (instr : Instruction) (chip chip' : ChipView)
     (sink : SinkView) → Rose chip.faults chip'.faults
-    → StoppedWithin (events_by m instr) chip.banks chip'.banks
+    → StoppedWithin 0 (events_by m instr) chip.banks chip'.banks
     → Broke m number instr chip chip' sink sink ChipFault
 silent_broke m number instr chip chip' sink rose left = record {
   chip_rose = λ e. rose;
-  left = λ e. left;
+  left = λ e. stopped_more (banks_read_by m instr) _ _ _ left;
   sink_rose = λ e. absurd (cc);
   unsent = λ e h. refl;
   done = λ e. absurd (cc);
@@ -281,11 +280,12 @@ pub reply_guarded : (m new : Machine) (number : ℕ) (instr : Instruction) (repl
     → reply ≡ answer_by m instr → RanBy m new (script_by m instr) chip chip'
     → RisesAtMost (80 * WALK_MAX) chip.counters chip'.counters
     → Known (λ x y. y ≡ x ++ line number (Answered reply)) sink.sent sink'.sent
-    → Guarded m new number instr chip chip' sink sink' reply
-reply_guarded m new number instr reply chip chip' sink sink' h e ran rises sent = record {
+    → sink'.faults ≡ sink.faults → Guarded m new number instr chip chip' sink sink' reply
+reply_guarded m new number instr reply chip chip' sink sink' h e ran rises sent unfailed = record {
   answer = e;
   ran = ran;
   rises = rises;
   sent = subst (λ text. Known (λ x y. y ≡ x ++ text) sink.sent sink'.sent)
       (line_is m number chip instr reply h e) sent;
+  unfailed = unfailed;
 }

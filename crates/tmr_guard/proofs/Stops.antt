@@ -5,8 +5,7 @@ use Rattle.tmr_guard.proofs.Common.{append_assoc, append-nil, add-one, flat_map,
 use Rattle.tmr_guard.proofs.Common.{OnErr, range_with_len, Rose, Geometry, Banks, Event, Grew}
 use Rattle.tmr_guard.proofs.Common.{after, ChipView, Did, FailedIn, Kept, StoppedIn, Grew-more}
 use Rattle.tmr_guard.proofs.Common.{after-append, Named, job_events, first_stranger, vote_job}
-use Rattle.tmr_guard.proofs.Common.{vote_events}
-use Rattle.std.specs.Prelude.{None}
+use Rattle.tmr_guard.proofs.Common.{vote_events, None}
 use Rattle.dram_model.specs.Chip.{bank_of}
 use Rattle.object_steps.proofs.Valued.{flat_suc}
 use Rattle.tmr_guard.proofs.Rounds.{all_taken, more_events}

@@ -22,13 +22,14 @@ use Rattle.object_steps.specs.declared.fault.StepFault.{StepFault}
 use Rattle.object_steps.specs.declared.fault.StepFault.TheVariants.{ChipFault, WriteFault}
 use Rattle.machine_model.specs.Pieces.{piece_of, events_of_pieces, turn_at_end}
 use Rattle.machine_model.specs.Report.{line}
-use Rattle.machine_model.specs.Script.{table_at_end, sum_done, rows_printed}
+use Rattle.machine_model.specs.Script.{banks_printed, table_at_end, sum_done, rows_printed}
 use Rattle.sim_machine.specs.declared.machine.Machine.{Machine}
 use Rattle.sim_machine.specs.Machine.{geometry_of, is_print, operations_by, program_of}
 use Rattle.sim_machine.specs.Machine.{table_in, turn_in}
 use Rattle.sim_machine.specs.Steps.{DidAndRead}
 use Rattle.guard_model.specs.Guarded.{guarded_reply, guarded_table, guarded_turn, guarded_events}
-use Rattle.guard_model.specs.Guarded.{guarded_reads, guarded_said_by, plain_script}
+use Rattle.guard_model.specs.Guarded.{guarded_reads, guarded_said_by, on_copy, plain_script}
+use Rattle.guard_model.specs.Triples.{x_letter}
 use Rattle.tmr_guard.specs.declared.guards.Guard.{Guard}
 
 -- the machine that does a guard's plain instructions
@@ -70,6 +71,10 @@ events_by m instr =
 -- how many data rows are read for a guarded instruction
 abbrev pub reads_by : Machine → Instruction → ℕ
 reads_by m instr = guarded_reads (geometry_of m) (operations_by m) (table_in m) instr
+
+-- and in how many banks: those of a print's x copy
+abbrev pub banks_read_by : Machine → Instruction → ℕ
+banks_read_by m instr = banks_printed (geometry_of m) (table_in m) (on_copy x_letter instr)
 
 -- the line of a guarded instruction in the report
 abbrev pub line_by : Machine → ℕ → Banks → Instruction → List ℕ
@@ -130,15 +135,16 @@ pub record Guarded (old new : Machine) (number : ℕ) (instr : Instruction) (chi
   pub rises : RisesAtMost (80 * WALK_MAX) chip.counters chip'.counters
   pub sent : Known (λ before after. after ≡ before ++ line_by old number chip.banks instr)
       sink.sent sink'.sent
+  pub unfailed : sink'.faults ≡ sink.faults
 
--- A count of faults rose. Where that is the chip's, every bank but one stands where a first part of
--- the instruction's events leaves it, and of no line but a print's a part was put. Where it is the
+-- A count of faults rose. Where that is the chip's, every bank but the failed call's stands where
+-- the events before it leave it, and of no line but a print's a part was put. Where it is the
 -- sink's, all was done, but of a print perhaps not each row was read.
 pub record Broke (old : Machine) (number : ℕ) (instr : Instruction) (chip chip' : ChipView)
     (sink sink' : SinkView) (fault : StepFault) : Type 0 where
   pub chip_rose : fault ≡ ChipFault → Rose chip.faults chip'.faults
   pub left : fault ≡ ChipFault
-      → StoppedWithin (events_by old instr) chip.banks chip'.banks
+      → StoppedWithin (banks_read_by old instr) (events_by old instr) chip.banks chip'.banks
   pub sink_rose : fault ≡ WriteFault → Rose sink.faults sink'.faults
   pub unsent : fault ≡ ChipFault → is_print instr ≡ false → sink' ≡ sink
   pub done : fault ≡ WriteFault → is_print instr ≡ false

@@ -121,7 +121,7 @@ fn bbop_is_long(dst: &Place, srcs: &[Place]) -> bool
 }
 
 /// Whether the instruction names an object of more than 15 bytes.
-pub fn names_long(instr: &Instr) -> bool
+fn names_long(instr: &Instr) -> bool
     ensures { result ≡ has_long_name (view_of instr.now) }
 {
     match instr {

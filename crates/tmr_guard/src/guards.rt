@@ -24,7 +24,7 @@ ghost use Rattle.guard_model.specs.Named.{has_long_name};
 ghost use Rattle.guard_model.specs.Triples.{first_stranger};
 ghost use Rattle.guard_model.specs.Votes.{vote_count, vote_events};
 ghost use Rattle.tmr_guard.specs.Steps.{Came, DidOne, HasMoreRoom, RanBy, RepliedBy};
-ghost use Rattle.tmr_guard.specs.Steps.{events_by, line_by};
+ghost use Rattle.tmr_guard.specs.Steps.{banks_read_by, events_by, line_by};
 ghost use Rattle.tmr_guard.specs.Steps.{machine_in, reads_by, reply_by, script_by, table_by};
 ghost use Rattle.tmr_guard.specs.Steps.{turn_by};
 
@@ -70,7 +70,8 @@ fn done<D: Dram>(m: &mut Machine<'_>, instr: &Instr, dram: &mut D) -> Result<Rep
     ensures rises { OnOk result (RisesAtMost (16 * WALK_MAX) (D.view dram.old).counters
         (D.view dram.new).counters) }
     ensures failed { OnErr result (Rose (D.view dram.old).faults (D.view dram.new).faults) }
-    ensures left { OnErr result (StoppedWithin (plain_events m.old (piece_of (view_of instr.now)))
+    ensures left { OnErr result (is_print (view_of instr.now) ≡ false
+        → StoppedWithin 0 (plain_events m.old (piece_of (view_of instr.now)))
         (D.view dram.old).banks (D.view dram.new).banks) }
 {
     match m.step(0, instr, dram, &mut Dropped) {
@@ -125,7 +126,8 @@ impl<'a> Guard<'a> {
         ensures rises { OnOk result (RisesAtMost (16 * WALK_MAX) (D.view dram.old).counters
             (D.view dram.new).counters) }
         ensures failed { OnErr result (Rose (D.view dram.old).faults (D.view dram.new).faults) }
-        ensures left { OnErr result (StoppedWithin (plain_events (machine_in self.old)
+        ensures left { OnErr result (is_print (on_copy letter (view_of instr.now)) ≡ false
+            → StoppedWithin 0 (plain_events (machine_in self.old)
             (piece_of (on_copy letter (view_of instr.now)))) (D.view dram.old).banks
             (D.view dram.new).banks) }
     {
@@ -165,7 +167,7 @@ impl<'a> Guard<'a> {
         ensures rises { OnOk result (RisesAtMost (16 * WALK_MAX) (D.view dram.old).counters
             (D.view dram.new).counters) }
         ensures failed { OnErr result (Rose (D.view dram.old).faults (D.view dram.new).faults) }
-        ensures left { OnErr result (StoppedWithin [] (D.view dram.old).banks
+        ensures left { OnErr result (StoppedWithin 0 [] (D.view dram.old).banks
             (D.view dram.new).banks) }
     {
         match instr {
@@ -198,7 +200,7 @@ impl<'a> Guard<'a> {
         ensures rises { OnOk result (RisesAtMost (80 * WALK_MAX) (D.view dram.old).counters
             (D.view dram.new).counters) }
         ensures failed { OnErr result (Rose (D.view dram.old).faults (D.view dram.new).faults) }
-        ensures left { OnErr result (StoppedWithin (events_by (machine_in self.old)
+        ensures left { OnErr result (StoppedWithin 0 (events_by (machine_in self.old)
             (view_of instr.now)) (D.view dram.old).banks (D.view dram.new).banks) }
     {
         let x = match self.plain(b'x', instr, dram)? {
@@ -239,7 +241,7 @@ impl<'a> Guard<'a> {
         ensures rises { OnOk result (RisesAtMost (80 * WALK_MAX) (D.view dram.old).counters
             (D.view dram.new).counters) }
         ensures failed { OnErr result (Rose (D.view dram.old).faults (D.view dram.new).faults) }
-        ensures left { OnErr result (StoppedWithin (events_by (machine_in self.old)
+        ensures left { OnErr result (StoppedWithin 0 (events_by (machine_in self.old)
             (view_of instr.now)) (D.view dram.old).banks (D.view dram.new).banks) }
     {
         match instr {
@@ -365,6 +367,7 @@ impl<'a> Guard<'a> {
         ensures borrow { D.borrow dram.new ≡ D.borrow dram.old }
         ensures kept { Kept (D.view dram.old) (D.view dram.new) }
         ensures sink_faults { (S.view out.old).faults ≤ (S.view out.new).faults }
+        ensures unfailed { OnOk result ((S.view out.new).faults ≡ (S.view out.old).faults) }
         ensures goes_on { GoesOn (machine_in self.old) (machine_in self.new) }
         ensures reply { IfOk result (λ reply. reply
             ≡ reply_by (machine_in self.old) (view_of instr.now)) }
@@ -382,14 +385,16 @@ impl<'a> Guard<'a> {
             ++ line_by (machine_in self.old) number (D.view dram.old).banks (view_of instr.now))
             (S.view out.old).sent (S.view out.new).sent) }
 
-        // After a fault nothing is said of the table. Where the chip fails, every bank but one
-        // stands where a first part of the events leaves it, and of no line but a print's a part is
-        // put. Where the sink fails, all was done, but of a print perhaps not each row was read.
+        // After a fault nothing is said of the table. Where the chip fails, every bank but the
+        // failed call's stands where the events before it leave it, and of no line but a print's a
+        // part is put. Where the sink fails, all was done, but of a print perhaps not each row was
+        // read.
         ensures chip_fault { IsErrOf result StepFault.ChipFault
             → Rose (D.view dram.old).faults (D.view dram.new).faults }
         ensures left { IsErrOf result StepFault.ChipFault
-            → StoppedWithin (events_by (machine_in self.old) (view_of instr.now))
-            (D.view dram.old).banks (D.view dram.new).banks }
+            → StoppedWithin (banks_read_by (machine_in self.old) (view_of instr.now))
+            (events_by (machine_in self.old) (view_of instr.now)) (D.view dram.old).banks
+            (D.view dram.new).banks }
         ensures unsent { IsErrOf result StepFault.ChipFault
             → is_print (view_of instr.now) ≡ false → S.view out.new ≡ S.view out.old }
         ensures write_fault { IsErrOf result StepFault.WriteFault
@@ -451,8 +456,8 @@ impl<'a> Guard<'a> {
         ensures same { machine_in self.new
             ≡ record (machine_in self.old) { file = file_of (machine_in self.new) } }
         ensures failed { OnErr result (Rose (D.view dram.old).faults (D.view dram.new).faults) }
-        ensures left { OnErr result (StoppedWithin [] (D.view dram.old).banks
-            (D.view dram.new).banks) }
+        ensures left { OnErr result (StoppedWithin (geometry_of (machine_in self.old)).banks []
+            (D.view dram.old).banks (D.view dram.new).banks) }
         ensures no_event { Grew (D.view dram.old).log (D.view dram.new).log [] }
     {
         self.machine.image(dram)

@@ -9,9 +9,9 @@ mod texts;
 mod triples;
 mod votes;
 
-pub use copies::{first_long, names_long};
+pub use copies::first_long;
 pub use flips::do_flip;
-pub use guard_model::{Flip, FlipsFault, FlipsKind};
+pub use guard_model::Flip;
 pub use guards::Guard;
 pub use texts::{FlipsNo, parse_flips};
 pub use triples::first_stranger;

@@ -13,6 +13,7 @@ use Rattle.bit_rows.proofs.Words.{words-eq}
 use Rattle.dram_model.proofs.RowWrites.{part_length as part_is_long}
 pub use Rattle.dram_model.proofs.RowWrites.{padded_length}
 use Rattle.transpose_unit.specs.Stage.{stage_row, stage_events}
+use Rattle.transpose_unit.proofs.Columns.{map-range}
 
 -- the segments of a count cover it, and are no more than the banks that do
 pub segments_cover : (g : Geometry) (count : ℕ) → 0 < column_count g → count ≤ size_of g count
@@ -97,14 +98,6 @@ stage_is g numbers values stage segments bank rows k e l same size lk h =
 abbrev pub bank_events : Geometry → (base n : ℕ) → List ℕ → ℕ → List Event
 bank_events g base n numbers bank = map (λ k. Write bank (base + k) (row_bits g numbers bank k))
     (range_with_len 0 n)
-
-map-range : {X : Type 0} (f h : ℕ → X) (a n : ℕ) → ((k : ℕ) → a ≤ k → k < a + n → f k ≡ h k)
-    → map f (range_with_len a n) ≡ map h (range_with_len a n)
-map-range f h a zero e = refl
-map-range f h a (suc n) e = rw (
-  e a (omega arith) (omega arith),
-  map-range f h (a + 1) n (λ k l m. e k (omega arith) (omega arith)),
-) refl
 
 pub stage_events_are : (g : Geometry) (base n : ℕ) (numbers values stage : List ℕ)
     (segments bank rows : ℕ) → n ≤ rows → length numbers ≡ column_count g * segments

@@ -35,6 +35,7 @@ fn write_rows<D: Dram>(
     ensures writes { OnOk result ((D.view dram.new).counters.writes
         ≡ (D.view dram.old).counters.writes + n) }
     ensures failed { OnErr result (FailedIn bank (D.view dram.old) (D.view dram.new)) }
+    ensures some { OnErr result (0 < n) }
 {
     let words = usize::from(g.words);
     for k in 0..n {
@@ -74,7 +75,7 @@ pub fn write_object<D: Dram>(
         ≡ padded_to (size_of g (length values.now)) values.now) }
     ensures failed { OnErr result (FailedBelow (segments_of g (length values.now)) (D.view dram.old)
         (D.view dram.new)) }
-    ensures stopped { OnErr result (StoppedWithin (write_events g base n values.now)
+    ensures stopped { OnErr result (StoppedWithin 0 (write_events g base n values.now)
         (D.view dram.old).banks (D.view dram.new).banks) }
 {
     let words = usize::from(g.words);

@@ -1,10 +1,9 @@
 use Rattle.guard_job.proofs.Common.{arith, ◌+◌, ◌∙◌, sym, ap, get_or, length, drop, List, Flip}
 use Rattle.guard_job.proofs.Common.{all_flipped, due, on_err_always}
 use Rattle.std.proofs.Common.{rules}
-use Rattle.transpose_unit.proofs.Stopping.{stopped_first}
 use Rattle.guard_job.proofs.Due.{cells_after, log_goes_on, no_more_log, not_due}
 use Rattle.guard_job.proofs.Due.{one_due, sorted_after}
-use Rattle.guard_job.proofs.Left.{flip_failed}
+use Rattle.guard_job.proofs.Left.{flip_failed, flip_first}
 use Rattle.guard_job.specs.Parts.{IsCell}
 use Rattle.guard_job.proofs.flipping.flip_due.Goals as goal
 
@@ -61,5 +60,9 @@ flips-preserved g c =
 
 pub returns-in_err-do_flip-clause-left : goal.returns-in_err-do_flip-clause-left
 returns-in_err-do_flip-clause-left g c =
-    on_err_always _ (c.flips.invariant.stops _ (stopped_first _ _ (g.D.Dram.view c.flips.chip).banks
-    (g.D.Dram.view c.do_flip.new.dram).banks c.in_err-do_flip.ensures.others))
+    let flips = c.args.flips.now in
+    let any : Flip = record { before = 0; bank = 0; row = 0; column = 0 } in
+    on_err_always _ (c.flips.invariant.stops _ (flip_first (get_or flips c.flips.done any) _ _
+    (g.D.Dram.view c.flips.chip).banks (g.D.Dram.view c.do_flip.new.dram).banks
+    (one_due c.args.k flips c.flips.done _ c.flips-test.true c.if-flips-done.true)
+    c.in_err-do_flip.ensures.others))

@@ -22,8 +22,8 @@ invariant-flips g l =
       banks : all_flipped (due l.k left) now.banks ≡ all_flipped (due l.k l.flips) start.banks;
       log : (new : ChipView) → Grew now.log new.log (flip_events (due l.k left) now.banks)
           → Grew start.log new.log (flip_events (due l.k l.flips) start.banks);
-      stops : (last : Banks) → StoppedWithin (flip_events (due l.k left) now.banks) now.banks last
-          → StoppedWithin (flip_events (due l.k l.flips) start.banks) start.banks last;
+      stops : (last : Banks) → StoppedWithin 0 (flip_events (due l.k left) now.banks) now.banks last
+          → StoppedWithin 0 (flip_events (due l.k l.flips) start.banks) start.banks last;
       sorted : AreSorted l.k left;
       cells : AllByRecursion (IsCell start.geometry) left;
     }

@@ -17,6 +17,7 @@ use Rattle.guard_job.proofs.Ending.{all_here, cells_on, flips_after, left_is, me
 use Rattle.guard_job.proofs.Ending.{next_flips, others_of}
 use Rattle.guard_job.proofs.Ending.{rises_more, stops_here, tally_last}
 use Rattle.guard_job.proofs.Walking.{banks_go, goes_goes, line_moved, log_goes, moved, refused_goes}
+use Rattle.guard_job.proofs.Left.{mend_left}
 use Rattle.guard_job.proofs.Sending.{and_then, left_by, unused}
 use Rattle.guard_job.proofs.Walking.{table_goes, tally_goes, votes_go}
 use Rattle.guard_job.proofs.scripts.guard_script.Goals as goal
@@ -265,11 +266,16 @@ returns-in-Ok-clause-goes g c files =
     let none : map view_of (drop c.instrs.done c.args.script.now) ≡ [] =
     ap (map view_of) (drop_all c.instrs.done c.args.script.now (omega arith)) in
     let events = mend_events shape (due k flips) table now.banks in
+    let left = drop c.instrs.flipped flips in
+    let known = rw c.split_at-2.ensures.back at c.in-Ok.ensures.done in
+    let m = mended_moved (geometry_of last) shape (due k left) (due k flips) table now new
+    (ap geometry_of inv.goes_on) (inv.later k (omega arith)) known in
     inv.goes files Done (world files sink new)
     (subst (λ (s : List Instruction). Goes (guarded_steps shape (operations_by first) flips k
     (turn_in last) table now.banks s) Done (world files sink now) (world files sink new)) (sym none)
     (and_then (doing now.banks events) [] Done files sink sink now new new
-    c.in-Ok.ensures.done.faults refl))
+    c.in-Ok.ensures.done.faults (mend_left shape (due k flips) table now.banks new.banks m.banks)
+    refl))
 
 pub returns-in-Err-clause-goes : goal.returns-in-Err-clause-goes
 returns-in-Err-clause-goes g c files =
@@ -288,14 +294,14 @@ returns-in-Err-clause-goes g c files =
     ap (map view_of) (drop_all c.instrs.done c.args.script.now (omega arith)) in
     let events = mend_events shape (due k flips) table now.banks in
     let known = rw c.split_at-2.ensures.back at c.in-Err.ensures.left in
-    let stopped : StoppedWithin events now.banks new.banks =
-    subst (λ (x : Geometry). StoppedWithin (mend_events x (due k flips) table now.banks)
+    let stopped : StoppedWithin 0 events now.banks new.banks =
+    subst (λ (x : Geometry). StoppedWithin 0 (mend_events x (due k flips) table now.banks)
     now.banks new.banks) (ap geometry_of inv.goes_on)
-    (subst (λ (fs : List Flip). StoppedWithin (mend_events (geometry_of last) fs table now.banks)
+    (subst (λ (fs : List Flip). StoppedWithin 0 (mend_events (geometry_of last) fs table now.banks)
     now.banks new.banks) (inv.later k (omega arith)) known) in
     inv.goes files (Stopped ChipFailed) (world files sink new)
     (subst (λ (s : List Instruction). Goes (guarded_steps shape (operations_by first) flips k
     (turn_in last) table now.banks s) (Stopped ChipFailed) (world files sink now)
     (world files sink new)) (sym none)
     (unused (doing now.banks events) [] files sink now new c.mend.ensures.kept.faults
-    c.in-Err.ensures.failed (left_by events now.banks now.banks new.banks refl stopped)))
+    c.in-Err.ensures.failed (left_by 0 events now.banks now.banks new.banks refl stopped)))

@@ -41,7 +41,7 @@ returns-in_err-fill_object-in-Ok-clause-stopped g c = λ operations.
     let new = g.D.Dram.view c.fill_object.new.dram in
     on_err c.from_residual.result (stopped_all (refusal c.args.g operations pairs instr)
     (own_events c.args.g pairs instr) old.banks new.banks (c.in-Ok.ensures.allowed operations)
-    (subst (λ (o : Object). StoppedWithin (fill_events c.args.g o c.args.value) old.banks new.banks)
+    (subst (λ (o : Object). StoppedWithin 0 (fill_events c.args.g o c.args.value) old.banks new.banks)
     c.in-Ok.ensures.object c.in_err-fill_object-in-Ok.ensures.stopped))
 
 pub returns-in-Err-clause-reply : goal.returns-in-Err-clause-reply

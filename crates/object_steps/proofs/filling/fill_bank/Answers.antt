@@ -1,8 +1,8 @@
 use Rattle.object_steps.proofs.Common.{◌≡◌, ℕ, ◌+◌, ◌∙◌, ap, arith, bit_at, bit_number, Counters}
-use Rattle.object_steps.proofs.Common.{Aap, Geometry, Banks, Row, Kept-more}
+use Rattle.object_steps.proofs.Common.{Aap, Geometry, Banks, Row, Kept-more, ◌<◌}
 use Rattle.dram_model.specs.View.{FailedIn}
-use Rattle.dram_model.specs.declared.address.Addr.TheVariants as addr
 use Rattle.object_steps.proofs.Filled.{is_given, next_row, on_err, rows_others, given_as}
+use Rattle.dram_model.specs.declared.address.Addr.TheVariants as addr
 use Rattle.object_steps.proofs.filling.fill_bank.Goals as goal
 
 pub aap-requires-clause-legal : goal.aap-requires-clause-legal
@@ -47,3 +47,8 @@ returns-in_err-aap-clause-failed g c =
           (λ k. addr.D (c.args.o.base + k)) c.args.bank 0 c.loop-k.k first.banks b ne;
     } in
     on_err c.from_residual.result all
+
+pub returns-in_err-aap-clause-some : goal.returns-in_err-aap-clause-some
+returns-in_err-aap-clause-some g c =
+    let some : 0 < c.args.o.width = omega arith in
+    on_err c.from_residual.result some

@@ -1,12 +1,12 @@
 use Rattle.object_steps.proofs.Common.{flat_map, range_with_len, nat_tests, bit_at, bit_number, Aap}
 use Rattle.object_steps.proofs.Common.{Row, ◌≤◌, ◌≢◌, ◌∙◌, ◌*◌, ◌+◌, ◌<◌, ap, arith, Banks}
-use Rattle.object_steps.proofs.Common.{StoppedWithin, Kept-more, segments, fill_events}
+use Rattle.object_steps.proofs.Common.{StoppedWithin, Kept-more, segments, fill_events, refl}
 use Rattle.dram_model.specs.Elements.{FailedBelow}
-use Rattle.transpose_unit.proofs.Stopping.{stopped_turn}
-use Rattle.dram_model.specs.declared.address.Addr.TheVariants as addr
+use Rattle.transpose_unit.proofs.Stopping.{stopped_turn, next_in}
 use Rattle.object_steps.proofs.Rises.{few_events, few_rows}
 use Rattle.object_steps.specs.Objects.{filled_in}
 use Rattle.object_steps.proofs.Filled.{next_bank, on_err, filled_others, one_times_more}
+use Rattle.dram_model.specs.declared.address.Addr.TheVariants as addr
 use Rattle.object_steps.proofs.filling.fill_object.Goals as goal
 
 pub fill_bank-requires-clause-begun : goal.fill_bank-requires-clause-begun
@@ -71,10 +71,11 @@ returns-in_err-fill_bank-clause-stopped g c =
     let new = g.D.Dram.view c.fill_bank.new.dram in
     let inside : c.loop-bank.bank < segments c.args.g c.args.o =
     omega (arith, c.segments-bank-end.ensures.value) in
-    let all : StoppedWithin (fill_events c.args.g c.args.o c.args.value) first.banks new.banks =
+    let all : StoppedWithin 0 (fill_events c.args.g c.args.o c.args.value) first.banks new.banks =
     stopped_turn (filled_in c.args.o c.args.value) (segments c.args.g c.args.o) c.loop-bank.bank
-    c.loop-bank.bank inside first.banks now.banks new.banks c.loop-bank.invariant.did.banks
-    c.in_err-fill_bank.ensures.failed.others in
+    c.loop-bank.bank inside first.banks now.banks new.banks
+    (next_in _ c.args.o.width c.loop-bank.bank c.in_err-fill_bank.ensures.some refl)
+    c.loop-bank.invariant.did.banks c.in_err-fill_bank.ensures.failed.others in
     on_err c.from_residual.result all
 
 pub returns-clause-rises : goal.returns-clause-rises

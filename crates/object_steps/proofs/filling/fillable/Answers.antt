@@ -1,5 +1,4 @@
-use Rattle.object_steps.proofs.Common.{[], ◌∷◌, nat_le, rows_of, when}
-use Rattle.std.proofs.Common.{◌^◌}
+use Rattle.object_steps.proofs.Common.{[], ◌∷◌, nat_le, rows_of, when, ◌^◌}
 use Rattle.machine_model.specs.declared.Why.TheVariants as why
 use Rattle.object_steps.proofs.filling.fillable.Goals as goal
 

@@ -47,7 +47,7 @@ returns-in_err-write_object-in-Ok-clause-stopped g c = λ operations.
     let new = g.D.Dram.view c.write_object.new.dram in
     on_err c.from_residual.result (stopped_all (refusal c.args.g operations pairs instr)
     (own_events c.args.g pairs instr) old.banks new.banks (c.in-Ok.ensures.allowed operations)
-    (subst (λ (es : List Event). StoppedWithin es old.banks new.banks)
+    (subst (λ (es : List Event). StoppedWithin 0 es old.banks new.banks)
     (loads_are c.args.g c.in-Ok.o c.args.values.now c.in-Ok.ensures.count
     ∙ ap (λ (o : Object). load_events c.args.g o c.args.values.now) c.in-Ok.ensures.object)
     c.in_err-write_object-in-Ok.ensures.stopped))

@@ -1,9 +1,9 @@
 use Rattle.object_steps.proofs.Common.{[], ◌∷◌, arith, length, map, nat_le, not, at_place, rows_of}
-use Rattle.object_steps.proofs.Common.{when}
-use Rattle.std.proofs.Common.{◌^◌, eqb}
-use Rattle.machine_model.specs.declared.Why.TheVariants as why
+use Rattle.object_steps.proofs.Common.{when, ◌^◌}
+use Rattle.std.proofs.Common.{eqb}
 use Rattle.object_steps.proofs.Done.{load_refused, load_allowed}
 use Rattle.object_steps.proofs.Refused.{all_small}
+use Rattle.machine_model.specs.declared.Why.TheVariants as why
 use Rattle.object_steps.proofs.loading.loadable.Goals as goal
 
 pub returns-in-Err-clause-refused : goal.returns-in-Err-clause-refused

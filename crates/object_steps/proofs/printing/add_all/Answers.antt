@@ -23,7 +23,7 @@ loop-value-preserved g c =
     ∙ ap (λ (xs : List ℕ). c.args.text.now.items ++ xs)
     (sym (text_more values i value (omega arith) refl)) in
     record {
-      counts = omega (arith, c.loop-value.invariant.counts, c.in_ok-add_value.ensures.counts);
+      unfailed = c.in_ok-add_value.ensures.unfailed ∙ c.loop-value.invariant.unfailed;
       room = c.in_ok-add_value.ensures.room;
       held = subst (λ (xs : List ℕ). Known (AppendsUpTo c.add_value.new.text.items xs) first.sent
           new.sent) all (then_more (c.args.text.now.items ++ before) c.loop-value.text.items piece

@@ -28,7 +28,7 @@ loop-block-preserved g c =
     (block_text f count block here c.read_block-numbers.result (omega arith) (omega arith)
     c.columns_in.ensures c.read_block-numbers.ensures) in
     record {
-      counts = omega (arith, c.loop-block.invariant.counts, c.in_ok-add_all.ensures.counts);
+      unfailed = c.in_ok-add_all.ensures.unfailed ∙ c.loop-block.invariant.unfailed;
       room = c.in_ok-add_all.ensures.room;
       held = subst (λ (xs : List ℕ). Known (AppendsUpTo c.add_all.new.text.items xs) first.sent
           new.sent) all (then_more (c.args.text.now.items ++ before) c.loop-block.text.items piece

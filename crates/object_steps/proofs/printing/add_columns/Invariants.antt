@@ -1,5 +1,5 @@
-use Rattle.object_steps.proofs.Common.{◌*◌, ◌/◌, ◌<◌, ◌≤◌, ◌++◌, length, map, min, range_with_len}
-use Rattle.object_steps.proofs.Common.{Known, AppendsUpTo, stage_number, stage_rows}
+use Rattle.object_steps.proofs.Common.{◌*◌, ◌/◌, ◌<◌, ◌++◌, length, map, min, range_with_len, Known}
+use Rattle.object_steps.proofs.Common.{AppendsUpTo, stage_number, stage_rows, ◌≡◌}
 use Rattle.object_steps.specs.Lines.{values_text}
 use Rattle.object_steps.proofs.printing.add_columns.Given as goal
 
@@ -10,7 +10,7 @@ invariant-loop-block g l =
     let first = S.view l.initial.out in
     let now = S.view l.out in
     record {
-      counts : first.faults ≤ now.faults;
+      unfailed : now.faults ≡ first.faults;
       room : length l.text.items < 4096;
       held : Known (AppendsUpTo l.text.items (l.initial.text.items ++ values_text
           (map (stage_number (length l.stage / stage_rows l.n) l.n l.stage)

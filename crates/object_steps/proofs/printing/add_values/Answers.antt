@@ -25,7 +25,7 @@ returns-in-Err-clause-kept g c =
     Kept-more _ _ _ c.loop-bank.invariant.kept c.read_segment.ensures.kept
 
 pub returns-in-Err-clause-sink_faults : goal.returns-in-Err-clause-sink_faults
-returns-in-Err-clause-sink_faults g c = c.loop-bank.invariant.counts
+returns-in-Err-clause-sink_faults g c = omega (arith, c.loop-bank.invariant.unfailed)
 
 pub returns-in-Err-clause-no_event : goal.returns-in-Err-clause-no_event
 returns-in-Err-clause-no_event g c =
@@ -41,7 +41,7 @@ returns-in-Err-add_columns-clause-kept g c =
 
 pub returns-in-Err-add_columns-clause-sink_faults : goal.returns-in-Err-add_columns-clause-sink_faults
 returns-in-Err-add_columns-clause-sink_faults g c =
-    omega (arith, c.loop-bank.invariant.counts, c.add_columns.ensures.counts)
+    omega (arith, c.loop-bank.invariant.unfailed, c.add_columns.ensures.counts)
 
 pub returns-in-Err-add_columns-clause-no_event : goal.returns-in-Err-add_columns-clause-no_event
 returns-in-Err-add_columns-clause-no_event g c =
@@ -54,7 +54,10 @@ pub returns-clause-kept : goal.returns-clause-kept
 returns-clause-kept g c = c.loop-bank.invariant.kept
 
 pub returns-clause-sink_faults : goal.returns-clause-sink_faults
-returns-clause-sink_faults g c = c.loop-bank.invariant.counts
+returns-clause-sink_faults g c = omega (arith, c.loop-bank.invariant.unfailed)
+
+pub returns-clause-unfailed : goal.returns-clause-unfailed
+returns-clause-unfailed g c = c.loop-bank.invariant.unfailed
 
 pub returns-clause-room : goal.returns-clause-room
 returns-clause-room g c = c.loop-bank.invariant.room
@@ -100,7 +103,7 @@ loop-bank-preserved g c =
       did = subst (λ (n : ℕ). DidRead n first new) (one_times_more bank o.width)
           (DidRead-more (bank * o.width) o.width first now new kept.did c.in-Ok.ensures.did);
       stage = omega (arith, kept.stage);
-      counts = omega (arith, kept.counts, c.in-Ok-add_columns.ensures.counts);
+      unfailed = c.in-Ok-add_columns.ensures.unfailed ∙ kept.unfailed;
       room = c.in-Ok-add_columns.ensures.room;
       held = subst (λ (xs : List ℕ). Known (AppendsUpTo c.add_columns.new.text.items xs) began.sent
           after.sent) all (then_more so_far c.loop-bank.text.items own
@@ -128,7 +131,10 @@ pub returns-in-Err-clause-stopped : goal.returns-in-Err-clause-stopped
 returns-in-Err-clause-stopped g c = λ _.
     let first = g.D.Dram.view c.args.dram.now in
     let new = g.D.Dram.view c.read_segment.new.dram in
-    stopped_first [] c.loop-bank.bank first.banks new.banks (λ b ne.
+    let inside : c.loop-bank.bank < segments c.args.g c.args.o =
+    omega (arith, c.segments-bank-end.ensures.value) in
+    stopped_first (segments c.args.g c.args.o) [] c.loop-bank.bank first.banks new.banks inside
+    (λ b ne.
     c.in-Err.ensures.failed.others b ne
     ∙ ap (λ (banks : Banks). banks b) c.loop-bank.invariant.did.banks)
 

@@ -1,5 +1,5 @@
-use Rattle.object_steps.proofs.Common.{◌≡◌, ◌*◌, ◌<◌, ◌≤◌, ◌++◌, length, Known, AppendsUpTo}
-use Rattle.object_steps.proofs.Common.{DidRead, Kept}
+use Rattle.object_steps.proofs.Common.{◌≡◌, ◌*◌, ◌<◌, ◌++◌, length, Known, AppendsUpTo, DidRead}
+use Rattle.object_steps.proofs.Common.{Kept}
 use Rattle.object_steps.specs.Lines.{values_text}
 use Rattle.object_steps.proofs.Valued.{first_values}
 use Rattle.object_steps.proofs.printing.add_values.Given as goal
@@ -16,7 +16,7 @@ invariant-loop-bank g l =
       kept : Kept first now;
       did : DidRead (l.bank * l.o.width) first now;
       stage : length l.stage ≡ length l.initial.stage;
-      counts : (S.view l.initial.out).faults ≤ (S.view l.out).faults;
+      unfailed : (S.view l.out).faults ≡ (S.view l.initial.out).faults;
       room : length l.text.items < 4096;
       held : Known (AppendsUpTo l.text.items (l.initial.text.items ++ values_text
           (first_values l.o.base l.o.width l.o.count l.bank first.banks)))

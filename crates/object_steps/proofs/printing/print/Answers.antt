@@ -126,6 +126,10 @@ returns-in-Err-put-clause-part g c = λ operations.
     (more_held front held (codes "\n") last began.sent before.sent whole
     c.in_ok-add_values.ensures.held) c.in-Err-put.ensures.part)
 
+pub returns-in-Ok-put-clause-unfailed : goal.returns-in-Ok-put-clause-unfailed
+returns-in-Ok-put-clause-unfailed g c =
+    c.in-Ok-put.ensures.unfailed ∙ c.in_ok-add_values.ensures.unfailed
+
 pub returns-in-Err-clause-reply : goal.returns-in-Err-clause-reply
 returns-in-Err-clause-reply g c = λ operations.
     let instr = Print c.args.place.now in

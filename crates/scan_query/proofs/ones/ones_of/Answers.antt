@@ -1,5 +1,5 @@
 use Rattle.scan_query.proofs.Common.{◌≡◌, ◌∙◌, ◌<◌, ℕ, ap, arith, length, refl, Geometry}
-use Rattle.scan_query.proofs.Common.{column_count, Kept-more, err_from_is_err_and}
+use Rattle.scan_query.proofs.Common.{column_count, Kept-more, err_from_is_err_and, segments}
 use Rattle.dram_model.proofs.EventLaws.{DidRead-more}
 use Rattle.scan_query.proofs.Counting.{banks_counted, length_put_back}
 use Rattle.scan_query.proofs.Failing.{read_failed}
@@ -42,5 +42,8 @@ pub returns-in_err-found-clause-left : goal.returns-in_err-found-clause-left
 returns-in_err-found-clause-left g c =
     let view = g.D.Dram.view in
     let p = err_from_is_err_and c.from_residual.result c.from_residual.ensures.1 in
-    rw p.1 (read_failed c.banks.bank c.banks.bank (view c.args.dram.now) (view c.banks.dram)
-    (view c.ones_of_row.new.dram) c.banks.invariant.did c.in_err-found.ensures.failed.others)
+    let inside : c.banks.bank < segments c.args.g c.args.object =
+    omega (arith, c.banks-test.true, c.segments-bank-end.ensures.value) in
+    rw p.1 (read_failed (segments c.args.g c.args.object) c.banks.bank c.banks.bank
+    (view c.args.dram.now) (view c.banks.dram) (view c.ones_of_row.new.dram) inside
+    c.banks.invariant.did c.in_err-found.ensures.failed.others)

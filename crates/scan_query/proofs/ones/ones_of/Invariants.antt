@@ -1,6 +1,5 @@
 use Rattle.scan_query.proofs.Common.{◌≡◌, ◌*◌, ◌≤◌, length, take, map, count_by, DidRead, number}
-use Rattle.scan_query.proofs.Common.{below}
-use Rattle.std.specs.Prelude.{◌==◌}
+use Rattle.scan_query.proofs.Common.{below, ◌==◌}
 use Rattle.dram_model.specs.View.{Kept}
 use Rattle.scan_query.proofs.ones.ones_of.Given as goal
 

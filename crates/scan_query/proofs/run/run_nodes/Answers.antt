@@ -46,15 +46,10 @@ do_node-requires-clause-room g c =
     let start = table_in c.args.machine.now in
     let xs = c.args.nodes.now in
     let j = c.nodes.node-index in
-    let node = node_of c.node-item.result in
     let count = count_of start (map node_of xs) in
     let names = free_name start in
     let below : j < length xs = omega (arith, c.nodes-test.true, c.nodes.auto.node-index-end) in
     let at = at_of xs j c.node-item.result c.node-item.result below c.node-item.is in
-    let left = left_with node_of xs j c.node-item.result at in
-    let sources = subst (AllByRecursion (sources_fit 64)) left c.nodes.invariant.sources in
-    let plain = subst (λ (ns : List Node). AllByRecursion IsPlain
-    (script_from start names count j ns)) left c.nodes.invariant.plain in
     let front = map node_of (take j xs) in
     let size = front_length node_of xs j c.node-item.result at in
     node_room start names count front c.args.machine.now c.nodes.machine
@@ -73,8 +68,6 @@ returns-in-Some-clause-runs g c =
     let at = at_of xs j c.node-item.result c.node-item.result below c.node-item.is in
     let left = left_with node_of xs j c.node-item.result at in
     let sources = subst (AllByRecursion (sources_fit 64)) left c.nodes.invariant.sources in
-    let plain = subst (λ (ns : List Node). AllByRecursion IsPlain
-    (script_from start names count j ns)) left c.nodes.invariant.plain in
     let same = next_instructions node_of xs j c.nodes.k c.node-item.result c.as_slice.result.now
     c.deref.result.now start count c.count_of-count.result c.from.result
     at (omega (arith, below, c.requires.few)) c.nodes.invariant.place c.from.ensures
@@ -171,15 +164,12 @@ returns-in_err-why-clause-runs g c =
     let start = table_in c.args.machine.now in
     let xs = c.args.nodes.now in
     let j = c.nodes.node-index in
-    let node = node_of c.node-item.result in
     let count = count_of start (map node_of xs) in
     let names = free_name start in
     let below : j < length xs = omega (arith, c.nodes-test.true, c.nodes.auto.node-index-end) in
     let at = at_of xs j c.node-item.result c.node-item.result below c.node-item.is in
     let left = left_with node_of xs j c.node-item.result at in
     let sources = subst (AllByRecursion (sources_fit 64)) left c.nodes.invariant.sources in
-    let plain = subst (λ (ns : List Node). AllByRecursion IsPlain
-    (script_from start names count j ns)) left c.nodes.invariant.plain in
     let same = next_instructions node_of xs j c.nodes.k c.node-item.result c.as_slice.result.now
     c.deref.result.now start count c.count_of-count.result c.from.result
     at (omega (arith, below, c.requires.few)) c.nodes.invariant.place c.from.ensures

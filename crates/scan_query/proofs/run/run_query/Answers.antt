@@ -2,18 +2,16 @@ use Rattle.scan_query.proofs.Common.{◌≡◌, ◌∙◌, sym, ap, subst, arith
 use Rattle.scan_query.proofs.Common.{None, Some, Ok, ◌-◌, AllByRecursion, Counters, segments_of}
 use Rattle.scan_query.proofs.Common.{DidRead, Named, Counts, IsPlain, count_of, scan_script}
 use Rattle.scan_query.proofs.Common.{geometry_of, operations_by, table_in, Refused, checked}
-use Rattle.scan_query.proofs.Common.{free_name, Node, size, err_from_is_err_and}
+use Rattle.scan_query.proofs.Common.{free_name, Node, size, err_from_is_err_and, [], StoppedWithin}
 use Rattle.scan_query.specs.Queries.{node_of, nodes_in, sources_fit}
 use Rattle.scan_query.specs.Running.{FailedAmong, NodesRan, NodesRun, StoppedAt, refused_node}
-use Rattle.scan_query.proofs.Failing.{failed_after, failed_in}
+use Rattle.scan_query.proofs.Failing.{failed_after, left_by_all, left_by_some}
 use Rattle.scan_query.proofs.Answering.{all_done, answer_checked, answer_done, answer_refused}
-use Rattle.scan_query.proofs.Answering.{asked}
-use Rattle.scan_query.proofs.Answering.{check_says, counters_end, counts_after, few_nodes, goes_on}
-use Rattle.scan_query.proofs.Answering.{last_is}
-use Rattle.scan_query.proofs.Answering.{not_both, ones_as, plain_nodes, reads_are, rises}
-use Rattle.scan_query.proofs.Answering.{room_left}
-use Rattle.scan_query.proofs.Answering.{some_left, sources_fit_all}
+use Rattle.scan_query.proofs.Answering.{asked, check_says, counters_end, counts_after, few_nodes}
+use Rattle.scan_query.proofs.Answering.{goes_on, last_is, not_both, ones_as, plain_nodes, reads_are}
+use Rattle.scan_query.proofs.Answering.{rises, room_left, some_left, sources_fit_all}
 use Rattle.scan_query.proofs.Stopping.{same_why}
+use Rattle.transpose_unit.proofs.Stopping.{stopped_more}
 use Rattle.scan_query.proofs.run.run_query.Goals as goal
 
 pub check-requires : goal.check-requires
@@ -430,7 +428,8 @@ returns-in_err-why-clause-left g c =
     let failed = subst (λ (ns : List Node). FailedAmong (scan_script (table_in a) ns) a s t) same
     c.in_err-why.ensures.runs in
     let p = err_from_is_err_and c.from_residual.result c.from_residual.ensures.1 in
-    rw p.1 (failed_in a s t nodes failed)
+    rw p.1 (stopped_more (segments_of (geometry_of a) (count_of (table_in a) nodes)) _ s.banks
+    t.banks failed.left)
 
 pub returns-in_err-found-clause-left : goal.returns-in_err-found-clause-left
 returns-in_err-found-clause-left g c =
@@ -444,6 +443,56 @@ returns-in_err-found-clause-left g c =
     let ran : NodesRan nodes a b s t = subst (λ (ns : List Node). NodesRan ns a b s t) same
     (subst (λ r. NodesRun (map node_of c.as_slice-nodes.result.now) a b s t (Ok r))
     c.in_default-2.is c.in_ok-why.ensures.runs) in
+    let q = c.requires.query.0 in
+    let h = c.requires.query.1 in
+    let k = asked a b s t nodes _ q _ c.table.ensures.laid c.requires.geometry
+    (g.met.D.Dram.width c.args.dram.now c.requires.begun) c.requires.program h same
+    (sym (check_says _ _ _ _ _ _ _ c.table.ensures.objects c.table-2.ensures.objects same
+    c.count_of-count.ensures c.check.ensures) ∙ c.in_default.is)
+    c.in_default-2.is c.in_ok-why.ensures.runs in
+    let shown = c.geometry.ensures ∙ c.in_ok-why.ensures.kept.geometry ∙ c.requires.geometry in
+    let object = c.last_object-object.ensures (table_in a)
+    (free_name (table_in a) (size q), k.leaves.object) (c.table-3.ensures.objects ∙ k.left) in
+    let reads = reads_are a s nodes q c.geometry.result c.last_object-object.result h k.leaves shown
+    object in
     let p = err_from_is_err_and c.from_residual-in_err-found.result
     c.from_residual-in_err-found.ensures.1 in
-    rw p.1 (failed_after a b s t u nodes ran c.in_err-found.ensures.left)
+    rw p.1 (failed_after (segments_of (geometry_of a) (count_of (table_in a) nodes)) a b s t u nodes
+    ran (subst (λ n. StoppedWithin n [] t.banks u.banks) reads c.in_err-found.ensures.left))
+
+pub returns-in-Some-2-clause-used : goal.returns-in-Some-2-clause-used
+returns-in-Some-2-clause-used g c checks =
+    let a = c.args.machine.now in
+    let b = c.run_nodes.new.machine in
+    let s = g.D.Dram.view c.args.dram.now in
+    let t = g.D.Dram.view c.run_nodes.new.dram in
+    let same = ap (map node_of) c.as_slice-nodes.ensures.value in
+    let runs = subst (λ r. NodesRun (map node_of c.as_slice-nodes.result.now) a b s t (Ok r))
+    c.in-Some-2.is c.in_ok-why.ensures.runs in
+    left_by_some c.in-Some-2.why a s t (scan_script (table_in a) (nodes_in c.args.query.now))
+    (subst (λ (ns : List Node). StoppedAt c.in-Some-2.why (scan_script (table_in a) ns) a s t) same
+    runs.1)
+
+pub returns-clause-used : goal.returns-clause-used
+returns-clause-used g c checks =
+    let a = c.args.machine.now in
+    let b = c.run_nodes.new.machine in
+    let s = g.D.Dram.view c.args.dram.now in
+    let t = g.D.Dram.view c.run_nodes.new.dram in
+    let nodes = nodes_in c.args.query.now in
+    let same = ap (map node_of) c.as_slice-nodes.ensures.value in
+    let ran : NodesRan nodes a b s t = subst (λ (ns : List Node). NodesRan ns a b s t) same
+    (subst (λ r. NodesRun (map node_of c.as_slice-nodes.result.now) a b s t (Ok r))
+    c.in_default-2.is c.in_ok-why.ensures.runs) in
+    c.in_ok-found.ensures.did.banks ∙ left_by_all a b s t (scan_script (table_in a) nodes) ran.ran
+
+pub returns-in-Some-clause-used : goal.returns-in-Some-clause-used
+returns-in-Some-clause-used g c none =
+    let a = c.args.machine.now in
+    let nodes = nodes_in c.args.query.now in
+    let same = ap (map node_of) c.as_slice-nodes.ensures.value in
+    let checks : checked (table_in a) nodes ≡ Some (c.in-Some.why, c.in-Some.k) =
+    sym (check_says _ _ _ _ _ _ _
+    c.table.ensures.objects c.table-2.ensures.objects same c.count_of-count.ensures
+    c.check.ensures) ∙ c.in-Some.is in
+    absurd (not_both (checked (table_in a) nodes) (c.in-Some.why, c.in-Some.k) checks none)

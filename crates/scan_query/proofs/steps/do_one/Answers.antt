@@ -15,4 +15,5 @@ returns-in-Err-ChipFault-clause-runs g c =
     failed_one (view_of c.args.instr.now) c.args.machine.now (g.D.Dram.view c.args.dram.now)
     (g.D.Dram.view c.step.new.dram)
     (c.in-Err-ChipFault.ensures.chip_fault (rw c.in-Err-ChipFault.field-0-is refl)).rose
+    c.requires.silent
     (c.in-Err-ChipFault.ensures.left (rw c.in-Err-ChipFault.field-0-is refl))

@@ -1,6 +1,6 @@
 use Rattle.sim_machine.proofs.Common.{[], ◌+◌, ◌*◌, arith, vec_len, ap, ◌∙◌, subst, Rose, Banks}
 use Rattle.sim_machine.proofs.Common.{StoppedWithin, DidRead, Grew-more, Kept-more, DidRead-more}
-use Rattle.sim_machine.proofs.Common.{on_err}
+use Rattle.sim_machine.proofs.Common.{on_err, ◌<◌}
 use Rattle.transpose_unit.proofs.Stopping.{stopped_first}
 use Rattle.sim_machine.specs.Image.{bank_bytes}
 use Rattle.sim_machine.proofs.Rows.{next_bytes, more_reads, one_times_more}
@@ -49,8 +49,9 @@ pub returns-in_err-read_bank-clause-stopped : goal.returns-in_err-read_bank-clau
 returns-in_err-read_bank-clause-stopped g c =
     let first = g.D.Dram.view c.args.dram.now in
     let new = g.D.Dram.view c.read_bank.new.dram in
-    let all : StoppedWithin [] first.banks new.banks =
-    stopped_first [] c.loop-bank.bank first.banks new.banks (λ b ne.
+    let inside : c.loop-bank.bank < c.args.g.banks = omega arith in
+    let all : StoppedWithin c.args.g.banks [] first.banks new.banks =
+    stopped_first c.args.g.banks [] c.loop-bank.bank first.banks new.banks inside (λ b ne.
     c.in_err-read_bank.ensures.failed.others b ne
     ∙ ap (λ (banks : Banks). banks b) c.loop-bank.invariant.did.banks) in
     on_err c.from_residual.result all

@@ -1,5 +1,5 @@
 use Rattle.sim_machine.proofs.Common.{arith, ◌∙◌, ap, refl, common_steps, Kept-more, Banks, Write}
-use Rattle.sim_machine.proofs.Common.{FailedIn, rows_in, on_err}
+use Rattle.sim_machine.proofs.Common.{FailedIn, rows_in, on_err, ◌<◌}
 use Rattle.transpose_unit.proofs.Stopping.{others_stay}
 use Rattle.sim_machine.proofs.Rows.{next_row}
 use Rattle.sim_machine.proofs.opening.write_bank.Goals as goal
@@ -31,3 +31,8 @@ returns-in_err-write_row-clause-failed g c =
           c.loop-row.row first.banks b ne;
     } in
     on_err c.from_residual.result all
+
+pub returns-in_err-write_row-clause-some : goal.returns-in_err-write_row-clause-some
+returns-in_err-write_row-clause-some g c =
+    let some : 0 < c.args.g.rows = omega arith in
+    on_err c.from_residual.result some

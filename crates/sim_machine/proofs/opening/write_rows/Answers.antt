@@ -1,6 +1,6 @@
 use Rattle.sim_machine.proofs.Common.{arith, ◌∙◌, ◌<◌, common_steps, Kept-more, Rose, StoppedWithin}
-use Rattle.sim_machine.proofs.Common.{on_err}
-use Rattle.transpose_unit.proofs.Stopping.{stopped_turn}
+use Rattle.sim_machine.proofs.Common.{on_err, refl}
+use Rattle.transpose_unit.proofs.Stopping.{stopped_turn, next_in}
 use Rattle.sim_machine.specs.Opening.{all_writes, bank_writes}
 use Rattle.sim_machine.proofs.Rows.{next_bank}
 use Rattle.sim_machine.proofs.opening.write_rows.Goals as goal
@@ -30,8 +30,9 @@ returns-in_err-write_bank-clause-stopped g c =
     let now = g.D.Dram.view c.loop-bank.dram in
     let new = g.D.Dram.view c.write_bank.new.dram in
     let inside : c.loop-bank.bank < c.args.g.banks = omega arith in
-    let all : StoppedWithin (all_writes c.args.g c.args.rows.now) first.banks new.banks =
+    let all : StoppedWithin 0 (all_writes c.args.g c.args.rows.now) first.banks new.banks =
     stopped_turn (bank_writes c.args.g c.args.rows.now) c.args.g.banks c.loop-bank.bank
-    c.loop-bank.bank inside first.banks now.banks new.banks c.loop-bank.invariant.did.banks
-    c.in_err-write_bank.ensures.failed.others in
+    c.loop-bank.bank inside first.banks now.banks new.banks
+    (next_in _ c.args.g.rows c.loop-bank.bank c.in_err-write_bank.ensures.some refl)
+    c.loop-bank.invariant.did.banks c.in_err-write_bank.ensures.failed.others in
     on_err c.from_residual.result all

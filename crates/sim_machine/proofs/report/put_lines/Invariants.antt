@@ -1,4 +1,4 @@
-use Rattle.sim_machine.proofs.Common.{◌≡◌, ◌+◌, ◌≤◌, ◌++◌, take, Known}
+use Rattle.sim_machine.proofs.Common.{◌≡◌, ◌+◌, ◌++◌, take, Known}
 use Rattle.sim_machine.proofs.Lines.{reply_lines}
 use Rattle.sim_machine.proofs.report.put_lines.Given as goal
 
@@ -8,7 +8,7 @@ invariant-loop-reply g l =
     let S = g.S.Sink in
     record {
       next : l.next ≡ l.fn.number + l.reply-index;
-      faults : (S.view l.initial.out).faults ≤ (S.view l.out).faults;
+      unfailed : (S.view l.out).faults ≡ (S.view l.initial.out).faults;
       sent : Known (λ x y. y ≡ x ++ reply_lines l.fn.number (take l.reply-index l.replies))
           (S.view l.initial.out).sent (S.view l.out).sent;
     }

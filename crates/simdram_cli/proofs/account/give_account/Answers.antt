@@ -24,4 +24,4 @@ returns g c =
     λ chip. c.in_ok-text.ensures.told (g.S.Sink.view c.args.out.now) chip _ _
     (puts c.in_ok-text.text.items _ _ (g.F.Folder.view c.account_text.new.files)
     (g.S.Sink.view c.args.out.now) (g.S.Sink.view c.put.new.self) chip _
-    (rw c.deref.ensures.value at known) c.put.ensures.counts (runs_answered 0 _ _ tt))
+    (rw c.deref.ensures.value at known) (at_ok c.put.result (sym c.is_err.ensures.value ∙ c.if-is_err.false) c.put.ensures.unfailed) (runs_answered 0 _ _ tt))

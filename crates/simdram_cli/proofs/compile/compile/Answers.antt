@@ -41,4 +41,4 @@ returns g c =
     λ chip. compiled_taken c.args.names.now.ops.now c.args.names.now.prog.now _ program _
     (g.F.Folder.view c.args.files.now) files old chip _ c.in_ok-program.ensures.taken
     (puts (compiled_line program) _ _ files old new chip _ (rw many at known)
-    c.put_counted.ensures.counts (runs_answered 0 _ _ tt))
+    (at_ok c.put_counted.result (sym c.is_err.ensures.value ∙ c.if-is_err.false) c.put_counted.ensures.unfailed) (runs_answered 0 _ _ tt))

@@ -3,8 +3,8 @@ use Rattle.simdram_cli.proofs.Common.{rows_in_banks, total_line, vote_line, mach
 use Rattle.simdram_cli.proofs.Common.{table_in, world, Put, doing}
 use Rattle.simdram_cli.specs.Stops.{end_of}
 use Rattle.simdram_cli.proofs.Guarding.{not_stored, stored_then}
-use Rattle.simdram_cli.proofs.Sending.{left_by}
 use Rattle.simdram_cli.proofs.Stores.{at_err, at_ok, stored, use_broke, unstored}
+use Rattle.cli_model.specs.Waves.{and_reading}
 use Rattle.simdram_cli.proofs.guard.finish_guarded.Goals as goal
 
 pub returns-then-is_err-clause-goes : goal.returns-then-is_err-clause-goes
@@ -16,7 +16,7 @@ returns-then-is_err-clause-goes g c =
           (g.D.Dram.view c.args.chip.now) (g.D.Dram.view c.image.new.dram)
           c.image.ensures.kept.faults,
       at_err c.image.result bad c.image.ensures.failed,
-      left_by [] _ _ (at_err c.image.result bad c.image.ensures.left),
+      at_err c.image.result bad c.image.ensures.left,
     )
 
 pub returns-then-is_err-2-clause-goes : goal.returns-then-is_err-2-clause-goes
@@ -28,13 +28,13 @@ returns-then-is_err-2-clause-goes g c =
     ∙ c.if-is_err.false) c.image.ensures.did in
     let rose = at_err c.store.result (sym c.is_err-2.ensures.value
     ∙ c.if-is_err-2.true) c.store.ensures.failed in
-    not_stored (doing start.banks []) c.args.name.now (image_bytes shape (table_in m) (rows_in_banks start.banks))
+    not_stored (and_reading shape.banks (doing start.banks [])) c.args.name.now (image_bytes shape (table_in m) (rows_in_banks start.banks))
     (Put (vote_line c.args.outcome.votes c.args.flips)
     ∷ Put (total_line (with_reads (shape.banks * shape.rows) start.counters)
     c.args.outcome.refused) ∷ [])
     (g.F.Folder.view c.args.files.now) (g.F.Folder.view c.store.new.self)
     (g.S.Sink.view c.args.out.now) start (g.D.Dram.view c.image.new.dram)
-    did.faults
+    did.faults did.banks
     (unstored c.args.name.now (g.F.Folder.view c.args.files.now) (g.F.Folder.view c.store.new.self)
     (g.S.Sink.view c.args.out.now) (g.D.Dram.view c.image.new.dram) c.store.ensures.others
     rose c.store.ensures.counts)
@@ -52,14 +52,15 @@ returns-clause-goes g c =
     let did = at_ok c.image.result read c.image.ensures.did in
     let there = at_ok c.store.result (sym c.is_err-2.ensures.value
     ∙ c.if-is_err-2.false) c.store.ensures.stored in
-    stored_then (doing start.banks []) c.args.name.now bytes
+    stored_then (and_reading shape.banks (doing start.banks [])) c.args.name.now bytes
     (Put (vote_line c.args.outcome.votes c.args.flips)
     ∷ Put (total_line (with_reads (shape.banks * shape.rows) start.counters)
     c.args.outcome.refused) ∷ [])
     (end_of c.put_totals.result) (g.F.Folder.view c.args.files.now) files
     (g.S.Sink.view c.args.out.now) start last
-    (world files (g.S.Sink.view c.put_totals.new.out) last) did.faults
+    (world files (g.S.Sink.view c.put_totals.new.out) last) did.faults did.banks
     (stored c.args.name.now bytes (g.F.Folder.view c.args.files.now) files
     (g.S.Sink.view c.args.out.now) last c.store.ensures.others
-    (rw (c.file.ensures, c.machine.ensures, file) at there) c.store.ensures.counts)
+    (rw (c.file.ensures, c.machine.ensures, file) at there) c.store.ensures.counts
+    (at_ok c.store.result (sym c.is_err-2.ensures.value ∙ c.if-is_err-2.false) c.store.ensures.unfailed))
     (rw did.counters at c.put_totals.ensures.goes files)

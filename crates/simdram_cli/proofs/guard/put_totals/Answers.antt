@@ -14,7 +14,7 @@ returns-then-is_err-2-clause-goes g c files =
     (total_line (g.D.Dram.view c.args.chip.now).counters c.args.outcome.refused) files
     (g.S.Sink.view c.args.out.now) (g.S.Sink.view c.put.new.self)
     (g.S.Sink.view c.put_total.new.out) (g.D.Dram.view c.args.chip.now)
-    (rw (c.as_slice.ensures.value, c.vote_line-votes.ensures) at first) c.put.ensures.counts part
+    (rw (c.as_slice.ensures.value, c.vote_line-votes.ensures) at first) (at_ok c.put.result (sym c.is_err.ensures.value ∙ c.if-is_err.false) c.put.ensures.unfailed) part
     c.put_total.ensures.faults rose
 
 pub returns-clause-goes : goal.returns-clause-goes
@@ -27,5 +27,5 @@ returns-clause-goes g c files =
     (total_line (g.D.Dram.view c.args.chip.now).counters c.args.outcome.refused) files
     (g.S.Sink.view c.args.out.now) (g.S.Sink.view c.put.new.self)
     (g.S.Sink.view c.put_total.new.out) (g.D.Dram.view c.args.chip.now)
-    (rw (c.as_slice.ensures.value, c.vote_line-votes.ensures) at first) c.put.ensures.counts second
-    c.put_total.ensures.faults
+    (rw (c.as_slice.ensures.value, c.vote_line-votes.ensures) at first) (at_ok c.put.result (sym c.is_err.ensures.value ∙ c.if-is_err.false) c.put.ensures.unfailed) second
+    (at_ok c.put_total.result (sym c.is_err-2.ensures.value ∙ c.if-is_err-2.false) c.put_total.ensures.unfailed)

@@ -28,4 +28,5 @@ returns g c sink chip =
     chip _
     (stored c.args.names.now.out.now (empty_image c.args.names.now) files now sink chip
     c.store.ensures.others (rw (c.deref.ensures.value, c.in-Ok.ensures) at there)
-    c.store.ensures.counts) (runs_answered 0 _ _ tt))
+    c.store.ensures.counts
+    (at_ok c.store.result (sym c.is_err.ensures.value ∙ c.if-is_err.false) c.store.ensures.unfailed)) (runs_answered 0 _ _ tt))

@@ -61,7 +61,8 @@ returns-then-is_err-2 g c =
     (prog_is text file) (runs_made _ _ tt _ _ _ file
     (stores c.args.names.now.new.now (program_bytes 2 file.programs) _ _ files now old chip _
     (stored c.args.names.now.new.now _ files now old chip c.store.ensures.others
-    (rw (c.deref.ensures.value, wrote, both.1) at there) c.store.ensures.counts)
+    (rw (c.deref.ensures.value, wrote, both.1) at there) c.store.ensures.counts
+    (at_ok c.store.result (sym c.is_err.ensures.value ∙ c.if-is_err.false) c.store.ensures.unfailed))
     (unput (migrated_line file.programs) _ now old new chip
     (rw (c.from.ensures, entries_are c.migrate.result _ _ c.in-Ok.is both.0) at
     c.put_counted.ensures.part) c.put_counted.ensures.counts rose)))
@@ -87,7 +88,8 @@ returns g c =
     (prog_is text file) (runs_made _ _ tt _ _ _ file
     (stores c.args.names.now.new.now (program_bytes 2 file.programs) _ _ files now old chip _
     (stored c.args.names.now.new.now _ files now old chip c.store.ensures.others
-    (rw (c.deref.ensures.value, wrote, both.1) at there) c.store.ensures.counts)
+    (rw (c.deref.ensures.value, wrote, both.1) at there) c.store.ensures.counts
+    (at_ok c.store.result (sym c.is_err.ensures.value ∙ c.if-is_err.false) c.store.ensures.unfailed))
     (puts (migrated_line file.programs) _ _ now old new chip _
     (rw (c.from.ensures, entries_are c.migrate.result _ _ c.in-Ok.is both.0) at known)
-    c.put_counted.ensures.counts (runs_answered 0 _ _ tt))))
+    (at_ok c.put_counted.result (sym c.is_err-2.ensures.value ∙ c.if-is_err-2.false) c.put_counted.ensures.unfailed) (runs_answered 0 _ _ tt))))

@@ -118,7 +118,8 @@ returns-then-is_err-2 g c =
     (record { ops = ops_is; file = file; legal = r.legal; are = are; within = within })
     (stores c.args.names.now.new.now (program_bytes 2 r.made) _ _ files now out chip _
     (stored c.args.names.now.new.now _ files now out chip c.store.ensures.others
-    (rw (c.deref-2.ensures.value, r.file_is) at there) c.store.ensures.counts)
+    (rw (c.deref-2.ensures.value, r.file_is) at there) c.store.ensures.counts
+    (at_ok c.store.result (sym c.is_err.ensures.value ∙ c.if-is_err.false) c.store.ensures.unfailed))
     (unput _ _ now out (g.S.Sink.view c.put.new.self) chip
     (rw (c.deref-3.ensures.value, r.text_is) at (at_err c.put.result is c.put.ensures.part))
     c.put.ensures.counts (at_err c.put.result is c.put.ensures.failed))))))
@@ -155,7 +156,8 @@ returns g c =
     (record { ops = ops_is; file = file; legal = r.legal; are = are; within = within })
     (stores c.args.names.now.new.now (program_bytes 2 r.made) _ _ files now out chip _
     (stored c.args.names.now.new.now _ files now out chip c.store.ensures.others
-    (rw (c.deref-2.ensures.value, r.file_is) at there) c.store.ensures.counts)
+    (rw (c.deref-2.ensures.value, r.file_is) at there) c.store.ensures.counts
+    (at_ok c.store.result (sym c.is_err.ensures.value ∙ c.if-is_err.false) c.store.ensures.unfailed))
     (puts _ _ _ now out (g.S.Sink.view c.put.new.self) chip _
-    (rw (c.deref-3.ensures.value, r.text_is) at known) c.put.ensures.counts
+    (rw (c.deref-3.ensures.value, r.text_is) at known) (at_ok c.put.result (sym c.is_err-2.ensures.value ∙ c.if-is_err-2.false) c.put.ensures.unfailed)
     (runs_answered 0 _ _ tt))))))

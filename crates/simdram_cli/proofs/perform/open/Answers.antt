@@ -1,6 +1,5 @@
 use Rattle.simdram_cli.proofs.Common.{◌∙◌, ap, inl, inr, refl, Err, found_in, world}
 use Rattle.simdram_cli.specs.Inputs.{image_found}
-use Rattle.simdram_cli.proofs.Sending.{unopened_by}
 use Rattle.simdram_cli.proofs.Stores.{use_broke, used}
 use Rattle.simdram_cli.proofs.Tallies.{opened_counted}
 use Rattle.simdram_cli.proofs.perform.open.Goals as goal
@@ -21,7 +20,11 @@ returns-in-Ok-clause-goes g c files sink =
     let last = g.D.Dram.view c.open.new.dram in
     inl (
       world files sink last,
-      (used files sink (g.D.Dram.view c.args.chip.now) last c.in-Ok.ensures.unfailed, refl),
+      (
+        used _ files sink (g.D.Dram.view c.args.chip.now) last c.in-Ok.ensures.unfailed
+            c.in-Ok.ensures.opened.banks,
+        refl,
+      ),
     )
 
 pub returns-in-Err-ChipFault-clause-goes : goal.returns-in-Err-ChipFault-clause-goes
@@ -32,6 +35,5 @@ returns-in-Err-ChipFault-clause-goes g c files sink =
       refl,
       use_broke files sink (g.D.Dram.view c.args.chip.now) last c.open.ensures.faults,
       c.in-Err-ChipFault.ensures.failed is,
-      unopened_by c.args.image.geometry c.args.image.rows.now last
-          (c.in-Err-ChipFault.ensures.left is),
+      c.in-Err-ChipFault.ensures.left is,
     ))

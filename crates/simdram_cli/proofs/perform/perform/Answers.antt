@@ -5,7 +5,7 @@ use Rattle.simdram_cli.specs.Inputs.{image_found}
 use Rattle.simdram_cli.proofs.Performing.{all_done, own_first, started_on, stopped_first}
 use Rattle.simdram_cli.proofs.Performing.{stopped_open, total_is, went_on}
 use Rattle.simdram_cli.proofs.Progress.{holds_on}
-use Rattle.simdram_cli.proofs.Stores.{at_err, at_ok, sent}
+use Rattle.simdram_cli.proofs.Stores.{at_err, at_ok, put, sent}
 use Rattle.simdram_cli.proofs.perform.perform.Goals as goal
 
 pub returns-in_err-machine-clause-goes : goal.returns-in_err-machine-clause-goes
@@ -99,16 +99,16 @@ returns-clause-goes g c =
     (holds_on c.args.image.geometry c.args.image.table c.requires.lies) opened.opened in
     let done = all_done program script i machine start last refused started opened.opened worked.did
     c.work_to_image.ensures.kept worked.refused in
+    let fine = sym c.is_err.ensures.value ∙ c.if-is_err.false in
     went_on c.args.name.now program script i Done a b d e (opened.goes files out)
     (own_first c.args.name.now program script i machine start Done b d started worked.goes)
     (total_is program script i last refused Done d e done
     (inl (
       e,
       (
-        sent (λ before after. after ≡ before ++ total_line last.counters refused) stores lines
-            (g.S.Sink.view c.put_total.new.out) last
-            (at_ok c.put_total.result (sym c.is_err.ensures.value ∙ c.if-is_err.false)
-            c.put_total.ensures.sent) c.put_total.ensures.faults,
+        put (total_line last.counters refused) stores lines (g.S.Sink.view c.put_total.new.out) last
+            (at_ok c.put_total.result fine c.put_total.ensures.sent)
+            (at_ok c.put_total.result fine c.put_total.ensures.unfailed),
         refl,
       ),
     )))

@@ -2,10 +2,11 @@ use Rattle.simdram_cli.proofs.Common.{[], ap, map, subst, sym, ◌∙◌, err_fr
 use Rattle.simdram_cli.proofs.Common.{Banks, after, StoppedWithin, Kept-more, geometry_of, table_in}
 use Rattle.simdram_cli.proofs.Common.{world, CannotWrite, ChipFailed, Done, Stopped, doing}
 use Rattle.simdram_cli.specs.Tracing.{events_on, image_on}
-use Rattle.simdram_cli.proofs.Sending.{left_by}
 use Rattle.simdram_cli.proofs.Stores.{at_err, at_ok, stored, unstored}
 use Rattle.simdram_cli.proofs.Tracing.{did_all, image_failed, image_is_on, image_stored}
 use Rattle.simdram_cli.proofs.Tracing.{image_unstored, then_image, work_stopped}
+use Rattle.dram_model.specs.declared.geometry.Geometry.{Geometry}
+use Rattle.cli_model.specs.Waves.{and_reading}
 use Rattle.simdram_cli.proofs.perform.work_to_image.Goals as goal
 
 pub returns-in_err-refused-clause-goes : goal.returns-in_err-refused-clause-goes
@@ -35,10 +36,13 @@ returns-then-is_err-clause-goes g c =
     then_image c.args.machine.now banks script c.args.name.now (Stopped ChipFailed)
     (world files (g.S.Sink.view c.args.out.now) (g.D.Dram.view c.args.chip.now))
     (world files out mid) (world files out last) (c.in_ok-refused.ensures.goes files)
-    (image_failed (doing (after (events_on c.args.machine.now script) banks) [])
+    (image_failed (and_reading (geometry_of c.args.machine.now).banks
+    (doing (after (events_on c.args.machine.now script) banks) []))
     c.args.name.now (image_on c.args.machine.now banks script) files out mid last
     c.image.ensures.kept.faults (at_err c.image.result bad c.image.ensures.failed)
-    (left_by [] _ last.banks (subst (λ (b : Banks). StoppedWithin [] b last.banks)
+    (subst (λ (s : Geometry). StoppedWithin s.banks [] (after (events_on c.args.machine.now script)
+    banks) last.banks) (ap geometry_of c.work.ensures.goes_on)
+    (subst (λ (b : Banks). StoppedWithin (geometry_of c.work.new.machine).banks [] b last.banks)
     c.in_ok-refused.ensures.did.banks (at_err c.image.result bad c.image.ensures.left))))
 
 pub returns-then-is_err-2-clause-kept : goal.returns-then-is_err-2-clause-kept
@@ -63,9 +67,10 @@ returns-then-is_err-2-clause-goes g c =
     (Stopped (CannotWrite c.args.name.now))
     (world files (g.S.Sink.view c.args.out.now) (g.D.Dram.view c.args.chip.now))
     (world files out mid) (world stores out last) (c.in_ok-refused.ensures.goes files)
-    (image_unstored (doing (after (events_on c.args.machine.now script) banks) [])
+    (image_unstored (and_reading (geometry_of c.args.machine.now).banks
+    (doing (after (events_on c.args.machine.now script) banks) []))
     c.args.name.now (image_on c.args.machine.now banks script) files stores out mid
-    last read.faults (unstored c.args.name.now files stores out last
+    last read.faults (read.banks ∙ c.in_ok-refused.ensures.did.banks) (unstored c.args.name.now files stores out last
     c.store.ensures.others rose c.store.ensures.counts))
 
 pub returns-clause-kept : goal.returns-clause-kept
@@ -107,7 +112,9 @@ returns-clause-goes g c =
     then_image machine start.banks script c.args.name.now Done
     (world files (g.S.Sink.view c.args.out.now) start) (world files out mid) (world stores out last)
     (c.in_ok-refused.ensures.goes files)
-    (image_stored (doing (after (events_on machine script) start.banks) [])
+    (image_stored (and_reading (geometry_of machine).banks
+    (doing (after (events_on machine script) start.banks) []))
     c.args.name.now (image_on machine start.banks script) files stores out mid
-    last read.faults (stored c.args.name.now _ files stores out last
-    c.store.ensures.others (rw (c.file.ensures, file, is) at there) c.store.ensures.counts))
+    last read.faults (read.banks ∙ c.in_ok-refused.ensures.did.banks) (stored c.args.name.now _ files stores out last
+    c.store.ensures.others (rw (c.file.ensures, file, is) at there) c.store.ensures.counts
+    (at_ok c.store.result (sym c.is_err-2.ensures.value ∙ c.if-is_err-2.false) c.store.ensures.unfailed)))

@@ -29,7 +29,8 @@ returns-then-is_err-2 g c chip =
     not_put c.args.name.now c.args.file.now (replay_line c.args.counters) files now out
     (g.S.Sink.view c.put.new.self) chip
     (stored c.args.name.now c.args.file.now files now out chip c.store.ensures.others there
-    c.store.ensures.counts)
+    c.store.ensures.counts
+    (at_ok c.store.result (sym c.is_err.ensures.value ∙ c.if-is_err.false) c.store.ensures.unfailed))
     (rw (c.as_slice.ensures.value, c.replay_line-line.ensures) at part) c.put.ensures.counts rose
 
 pub returns : goal.returns
@@ -44,5 +45,6 @@ returns g c chip =
     all_put c.args.name.now c.args.file.now (replay_line c.args.counters) files now out
     (g.S.Sink.view c.put.new.self) chip
     (stored c.args.name.now c.args.file.now files now out chip c.store.ensures.others there
-    c.store.ensures.counts)
-    (rw (c.as_slice.ensures.value, c.replay_line-line.ensures) at whole) c.put.ensures.counts
+    c.store.ensures.counts
+    (at_ok c.store.result (sym c.is_err.ensures.value ∙ c.if-is_err.false) c.store.ensures.unfailed))
+    (rw (c.as_slice.ensures.value, c.replay_line-line.ensures) at whole) (at_ok c.put.result (sym c.is_err-2.ensures.value ∙ c.if-is_err-2.false) c.put.ensures.unfailed)

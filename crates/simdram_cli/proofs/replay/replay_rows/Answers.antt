@@ -4,6 +4,10 @@ use Rattle.simdram_cli.specs.Inputs.{image_found}
 use Rattle.simdram_cli.proofs.Replaying.{events_done, events_failed, file_is, reads_failed}
 use Rattle.simdram_cli.proofs.Replaying.{reads_still, rows_read, rows_unopened}
 use Rattle.simdram_cli.proofs.Stores.{at_err, at_ok}
+use Rattle.std.proofs.Common.{[], subst}
+use Rattle.dram_model.specs.declared.geometry.Geometry.{Geometry}
+use Rattle.dram_model.specs.Chip.{after}
+use Rattle.transpose_unit.specs.Stopped.{StoppedWithin}
 use Rattle.simdram_cli.proofs.replay.replay_rows.Goals as goal
 
 pub returns-in_err-machine-clause-goes : goal.returns-in_err-machine-clause-goes
@@ -43,7 +47,9 @@ returns-then-is_err-2-clause-goes g c files sink =
     c.in_ok-machine.ensures.opened
     (at_ok c.replay_events.result (sym c.is_err.ensures.value ∙ c.if-is_err.false)
     c.replay_events.ensures.did) (at_err c.image_with.result bad c.image_with.ensures.failed)
-    (at_err c.image_with.result bad c.image_with.ensures.left)
+    (subst (λ (s : Geometry). StoppedWithin s.banks [] b.banks last.banks)
+    (ap geometry_of c.in_ok-machine.ensures.machine)
+    (at_err c.image_with.result bad c.image_with.ensures.left))
 
 pub returns-clause-goes : goal.returns-clause-goes
 returns-clause-goes g c files sink =
@@ -53,7 +59,9 @@ returns-clause-goes g c files sink =
     c.image_with.ensures.did in
     rows_read c.args.trace.now (image_found (found_in c.args.image)) files sink (g.D.Dram.view c.args.chip.now) (g.D.Dram.view c.open.new.chip)
     (g.D.Dram.view c.replay_events.new.dram) (g.D.Dram.view c.image_with.new.dram)
-    (c.in_ok-machine.ensures.goes files sink) did.faults read.faults
+    (c.in_ok-machine.ensures.goes files sink) did.faults
+    (did.banks ∙ ap (after c.args.trace.now.events) c.in_ok-machine.ensures.opened.banks) read.faults
+    read.banks
 
 pub returns-clause-done : goal.returns-clause-done
 returns-clause-done g c =

@@ -23,4 +23,5 @@ returns-clause-goes g c sink chip =
     (g.F.Folder.view c.store.new.self) sink chip
     (stored c.args.name.now bytes (g.F.Folder.view c.args.files.now)
     (g.F.Folder.view c.store.new.self) sink chip c.store.ensures.others
-    (rw (c.deref.ensures.value, c.in-Ok.ensures.file) at there) c.store.ensures.counts)
+    (rw (c.deref.ensures.value, c.in-Ok.ensures.file) at there) c.store.ensures.counts
+    (at_ok c.store.result (sym c.is_err.ensures.value ∙ c.if-is_err.false) c.store.ensures.unfailed))

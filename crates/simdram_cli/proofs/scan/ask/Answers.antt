@@ -5,7 +5,8 @@ use Rattle.scan_model.specs.Operations.{scan_text}
 use Rattle.scan_query.specs.Queries.{nodes_in}
 use Rattle.simdram_cli.specs.Inputs.{image_found}
 use Rattle.simdram_cli.proofs.Scanning.{RanOn, asked_done, asked_failed, answer_moves, no_stage}
-use Rattle.simdram_cli.proofs.Scanning.{checks_are, not_opened, query_done, query_left, room_opened}
+use Rattle.simdram_cli.proofs.Scanning.{checks_are, not_opened, query_done, query_left, query_used}
+use Rattle.simdram_cli.proofs.Scanning.{room_opened}
 use Rattle.simdram_cli.proofs.Stopping.{query_stopped, refused_moves}
 use Rattle.simdram_cli.proofs.Progress.{Holds, holds_on}
 use Rattle.simdram_cli.proofs.scan.ask.Goals as goal
@@ -60,6 +61,8 @@ returns-in-Ok-run_query-clause-goes g c files sink t h =
     (ap table_in opened.machine)
     (c.in-Ok-run_query.ensures.answer t h)) c.in-Ok-run_query.ensures.counted
     c.run_query.ensures.unused
+    (λ none. query_used program t i nodes machine old new ran shape_is program_is turn_is
+    (c.in-Ok-run_query.ensures.used none))
     (λ is. query_done program (program_of machine) t i nodes (geometry_of machine) (table_in
     machine)
     (turn_in machine) _ old new ran holds shape_is program_is turn_is
@@ -88,7 +91,6 @@ returns-clause-goes g c files sink t h =
     asked_failed program t i nodes (table_in machine) files sink before old new c.run_query.result
     _ ran (opened.goes files sink) c.in-Err.is c.run_query.ensures.kept.faults
     c.in-Err.ensures.failed
-    (query_left program (program_of machine) t i nodes (geometry_of machine) (table_in machine)
-    (turn_in machine) old new ran (ap geometry_of opened.machine) (ap program_of opened.machine)
-    (ap turn_in opened.machine) c.in-Err.ensures.left)
+    (query_left program t i nodes machine old new ran (ap geometry_of opened.machine)
+    (ap program_of opened.machine) (ap turn_in opened.machine) c.in-Err.ensures.left)
     c.run_query.ensures.unused

@@ -160,4 +160,5 @@ returns-clause-recorded g c program i o =
     c.table.result.now.pairs file c.spell_trace.result new c.if-not-spell_trace.false
     (c.table.ensures.objects ∙ worked.table) c.spell_trace.ensures.spelled
     (λ view. stored names.trace.now file after new sent view c.store.ensures.others
-    (rw c.trace_file.ensures at there) c.store.ensures.counts))
+    (rw c.trace_file.ensures at there) c.store.ensures.counts
+    (at_ok c.store.result (sym c.is_err.ensures.value ∙ c.if-is_err.false) c.store.ensures.unfailed)))

@@ -90,4 +90,4 @@ returns-clause-traced g c =
     (g.S.Sink.view c.put_total.new.out) (g.D.Dram.view c.record_script.new.chip)
     (opened.goes files out) (c.in_ok-refused.ensures.recorded program i opens)
     (at_ok c.put_total.result (sym c.is_err.ensures.value
-    ∙ c.if-is_err.false) c.put_total.ensures.sent) c.put_total.ensures.faults
+    ∙ c.if-is_err.false) c.put_total.ensures.sent) (at_ok c.put_total.result (sym c.is_err.ensures.value ∙ c.if-is_err.false) c.put_total.ensures.unfailed)

@@ -94,4 +94,4 @@ returns g c =
     (record { ops = ops_is; file = file; are = r.are })
     (puts _ _ _ (g.F.Folder.view c.load.new.files) (g.S.Sink.view c.args.out.now)
     (g.S.Sink.view c.put.new.self) chip _ (rw (c.deref-2.ensures.value, r.text_is) at known)
-    c.put.ensures.counts (rw r.status_is (runs_answered _ _ _ tt))))))
+    (at_ok c.put.result (sym c.is_err.ensures.value ∙ c.if-is_err.false) c.put.ensures.unfailed) (rw r.status_is (runs_answered _ _ _ tt))))))

@@ -30,7 +30,7 @@ returns-in-Ok-clause-goes g c files =
     c.args.number (map view_of c.args.wave.now) files (g.S.Sink.view c.args.out.now)
     (g.S.Sink.view c.wave.new.out) (g.D.Dram.view c.args.chip.now) (g.D.Dram.view c.wave.new.dram)
     c.requires.bbops (rw length-map c.requires.some) c.in-Ok.ensures.sent
-    c.wave.ensures.sink_faults c.in-Ok.ensures.did.faults
+    c.in-Ok.ensures.unfailed c.in-Ok.ensures.did.faults c.in-Ok.ensures.did.banks
 
 pub returns-in-Err-clause-goes : goal.returns-in-Err-clause-goes
 returns-in-Err-clause-goes g c files =
@@ -44,7 +44,7 @@ returns-in-Err-clause-goes g c files =
       sink = c.wave.ensures.sink_faults;
       chip = c.wave.ensures.kept.faults;
       chip_rose = λ e. c.in-Err.ensures.chip_fault (rw e refl);
-      unfailed = λ e. (c.in-Err.ensures.done (rw e refl)).faults;
+      unfailed = λ e. let did = c.in-Err.ensures.done (rw e refl) in (did.faults, did.banks);
       stopped = λ e. let s = c.in-Err.ensures.stopped (rw e refl) in record {
         done = s.done;
         bank = s.bank;

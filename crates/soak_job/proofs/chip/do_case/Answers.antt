@@ -16,7 +16,7 @@ use Rattle.soak_job.proofs.chip.do_case.Goals as goal
 -- a case whose program is in this file failed on the chip
 abbrev FailsWithin : ℕ → Case → List ℕ → Banks → Banks → Type 0
 FailsWithin state c file a b = (f : IsFileOf c.op file)
-    → StoppedWithin (case_events state c f.program) a b
+    → StoppedWithin 2 (case_events state c f.program) a b
 
 pub run_case-requires-clause-does : goal.run_case-requires-clause-does
 run_case-requires-clause-does g c =
@@ -79,7 +79,7 @@ returns-in_err-load_sources-clause-left g c =
     let b = (g.D.Dram.view c.load_sources.new.chip).banks in
     on_err_always {P = FailsWithin state case c.args.file.now a b} _
     (λ f. writes_failed state case f.program a b
-    (subst (λ (ks : List Kind). StoppedWithin (source_writes state 0 case.n ks) a b)
+    (subst (λ (ks : List Kind). StoppedWithin 0 (source_writes state 0 case.n ks) a b)
     c.sources_of-kinds.ensures.kinds c.in_err-load_sources.ensures.left))
 
 pub returns-in_err-run_case-clause-left : goal.returns-in_err-run_case-clause-left
@@ -91,7 +91,7 @@ returns-in_err-run_case-clause-left g c =
     let d = g.D.Dram.view c.run_case.new.chip in
     let m = program_of c.own_entry-entry.result in
     on_err_always {P = FailsWithin state case c.args.file.now a.banks d.banks} _
-    (λ f. subst (λ (x : Microprogram). StoppedWithin (case_events state case x) a.banks d.banks)
+    (λ f. subst (λ (x : Microprogram). StoppedWithin 2 (case_events state case x) a.banks d.banks)
     (c.own_entry-entry.ensures.program f.program f.legal f.is)
     (wave_failed state case m a b d.banks
     (subst (λ (ks : List Kind). Did (source_writes state 0 case.n ks) a b)
@@ -108,7 +108,7 @@ returns-in_err-sum-clause-left g c =
     let e = g.D.Dram.view c.sum_of.new.chip in
     let m = program_of c.own_entry-entry.result in
     on_err_always {P = FailsWithin state case c.args.file.now a.banks e.banks} _
-    (λ f. subst (λ (x : Microprogram). StoppedWithin (case_events state case x) a.banks e.banks)
+    (λ f. subst (λ (x : Microprogram). StoppedWithin 2 (case_events state case x) a.banks e.banks)
     (c.own_entry-entry.ensures.program f.program f.legal f.is)
     (reading_failed state case m a b d e.banks
     (subst (λ (ks : List Kind). Did (source_writes state 0 case.n ks) a b)

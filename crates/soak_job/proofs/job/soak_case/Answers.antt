@@ -32,6 +32,7 @@ returns-then-is_err-clause-stopped g c files cases =
     stops_at_put c.args.generator.now c.args.case cases f.program files old new
     (g.D.Dram.view c.args.chip.now) (g.D.Dram.view c.do_case.new.chip)
     (program_is c.args.case c.deref.result.now f) (c.in-Ok-do_case.ensures.done f).faults
+    (c.in-Ok-do_case.ensures.done f).banks
     (subst (λ (bytes : List ℕ). Known (AppendsPart bytes) old.sent new.sent) line
     (at_err c.put.result is c.put.ensures.part)) c.put.ensures.counts
     (at_err c.put.result is c.put.ensures.failed)
@@ -53,5 +54,6 @@ returns-clause-went g c files =
     (g.D.Dram.view c.args.chip.now) (g.D.Dram.view c.do_case.new.chip)
     (program_is c.args.case c.deref.result.now f)
     (subst (λ (bytes : List ℕ). Known (λ before after. after ≡ before ++ bytes) old.sent new.sent)
-    line (at_ok c.put.result is c.put.ensures.sent)) c.put.ensures.counts
+    line (at_ok c.put.result is c.put.ensures.sent))
+    (at_ok c.put.result is c.put.ensures.unfailed)
     (c.in-Ok-do_case.ensures.done f) c.in-Ok-do_case.ensures.few

@@ -84,4 +84,5 @@ returns-clause-goes g c files =
     (subst (λ (cs : List Case). CasesGo c.loop-case.generator cs (world files old chip)
     (world files new chip) (Ok tt)) (sym none) (all_known c.loop-case.generator files old new chip
     (subst (λ (bytes : List ℕ). Known (λ before after. after ≡ before ++ bytes) old.sent new.sent)
-    line (at_ok c.put.result is c.put.ensures.sent)) c.put.ensures.counts))
+    line (at_ok c.put.result is c.put.ensures.sent))
+    (at_ok c.put.result is c.put.ensures.unfailed)))

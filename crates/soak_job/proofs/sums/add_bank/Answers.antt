@@ -14,5 +14,5 @@ returns-clause-sum g c =
 
 pub returns-in_err-read_segment-clause-left : goal.returns-in_err-read_segment-clause-left
 returns-in_err-read_segment-clause-left g c =
-    on_err_always _ (stopped_first [] c.args.bank (g.D.Dram.view c.args.chip.now).banks
-    (g.D.Dram.view c.read_segment.new.dram).banks c.in_err-read_segment.ensures.failed.others)
+    on_err_always _ (stopped_first 2 [] c.args.bank (g.D.Dram.view c.args.chip.now).banks
+    (g.D.Dram.view c.read_segment.new.dram).banks c.requires.bank c.in_err-read_segment.ensures.failed.others)

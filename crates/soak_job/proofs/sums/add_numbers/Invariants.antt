@@ -1,5 +1,4 @@
-use Rattle.soak_job.proofs.Common.{◌≡◌, ◌+◌, ◌%◌, ◌^◌, range_with_len, stage_number}
-use Rattle.std.proofs.Common.{sum_by}
+use Rattle.soak_job.proofs.Common.{◌≡◌, ◌+◌, ◌%◌, ◌^◌, range_with_len, stage_number, sum_by}
 use Rattle.soak_job.proofs.sums.add_numbers.Given as goal
 
 -- the sum so far

@@ -2,17 +2,17 @@ use Rattle.transpose_unit.proofs.Common.{◌≡◌, ◌≢◌, ℕ, ◌+◌, ◌
 use Rattle.transpose_unit.proofs.Common.{subst, ◌∙◌, arith, mul-add, flat_map, range_with_len}
 use Rattle.transpose_unit.proofs.Common.{Geometry, Banks, Event, Did, Did-more, Kept-more}
 use Rattle.transpose_unit.proofs.Common.{column_count, segments_of, size_of, padded_to}
-use Rattle.transpose_unit.proofs.Common.{write_events, numbers_in, bit_at}
+use Rattle.transpose_unit.proofs.Common.{write_events, numbers_in, bit_at, row_bits, refl, Write}
 use Rattle.std.specs.Int.{div_ceil}
 use Rattle.dram_model.specs.Elements.{FailedBelow}
 use Rattle.transpose_unit.specs.Stopped.{StoppedWithin}
-use Rattle.transpose_unit.proofs.Stopping.{stopped_turn}
+use Rattle.transpose_unit.proofs.Stopping.{stopped_turn, next_in}
 use Rattle.transpose_unit.specs.Stage.{stage_rows}
 use Rattle.transpose_unit.proofs.Rows.{rows-enough}
 use Rattle.transpose_unit.proofs.Events.{on_err_always}
-use Rattle.transpose_unit.proofs.Segments.{bank_events, banks_more, padded_at}
-use Rattle.transpose_unit.proofs.Segments.{padded_length, segments_cover, segments_fit}
-use Rattle.transpose_unit.proofs.Segments.{stage_events_are, words_some}
+use Rattle.transpose_unit.proofs.Segments.{bank_events, banks_more, padded_at, padded_length}
+use Rattle.transpose_unit.proofs.Segments.{segments_cover, segments_fit, stage_events_are}
+use Rattle.transpose_unit.proofs.Segments.{words_some}
 use Rattle.transpose_unit.proofs.Held.{after_first, numbers_hold}
 use Rattle.transpose_unit.proofs.write.write_object.Goals as goal
 
@@ -113,11 +113,13 @@ returns-in_err-write_rows-clause-stopped g c =
     in
     let inside : c.loop-bank.bank < segments_of c.args.g (length c.args.values.now) =
     omega (arith, segments) in
-    let all : StoppedWithin (flat_map (bank_events c.args.g c.args.base c.args.n numbers)
+    let all : StoppedWithin 0 (flat_map (bank_events c.args.g c.args.base c.args.n numbers)
     (range_with_len 0 (segments_of c.args.g (length c.args.values.now)))) first.banks new.banks =
     stopped_turn (bank_events c.args.g c.args.base c.args.n numbers)
     (segments_of c.args.g (length c.args.values.now)) c.loop-bank.bank c.loop-bank.bank inside
-    first.banks now.banks new.banks c.loop-bank.invariant.did.banks
+    first.banks now.banks new.banks (next_in (λ k. Write c.loop-bank.bank (c.args.base + k)
+    (row_bits c.args.g numbers c.loop-bank.bank k)) c.args.n c.loop-bank.bank
+    c.in_err-write_rows.ensures.some refl) c.loop-bank.invariant.did.banks
     c.in_err-write_rows.ensures.failed.others in
     on_err_always c.from_residual.result all
 

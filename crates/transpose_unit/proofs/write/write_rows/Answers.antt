@@ -1,6 +1,6 @@
 use Rattle.transpose_unit.proofs.Common.{◌≡◌, ℕ, ◌+◌, ◌-◌, ◌*◌, ◌∷◌, [], ◌≤◌, List, take, drop, ap}
 use Rattle.transpose_unit.proofs.Common.{◌∙◌, arith, refl, bits_of_words, Banks, Event, Write}
-use Rattle.transpose_unit.proofs.Common.{Counters, Did-more, Kept-more}
+use Rattle.transpose_unit.proofs.Common.{Counters, Did-more, Kept-more, ◌<◌}
 use Rattle.dram_model.specs.View.{FailedIn}
 use Rattle.transpose_unit.specs.Stage.{stage_events, stage_row, stage_rows}
 use Rattle.transpose_unit.proofs.Columns.{one_row}
@@ -54,6 +54,11 @@ returns-in_err-write_row-clause-failed g c =
           first.banks b ne;
     } in
     on_err_always c.from_residual.result all
+
+pub returns-in_err-write_row-clause-some : goal.returns-in_err-write_row-clause-some
+returns-in_err-write_row-clause-some g c =
+    let some : 0 < c.args.n = omega arith in
+    on_err_always c.from_residual.result some
 
 pub slice_bounds-write_row-end : goal.slice_bounds-write_row-end
 slice_bounds-write_row-end g c =

@@ -65,7 +65,7 @@ returns-in-Load-clause-left g c = rw (← c.self.view_is) (
     let V = g.D.Dram.view in
     let is : view_of c.args.instr.now ≡ Load c.in-Load.place c.as_slice.result.now =
     ap view_of c.in-Load.is ∙ ap (Load c.in-Load.place) (sym c.as_slice.ensures.value) in
-    subst (λ (i : Instruction). OnErr c.load.result (StoppedWithin (events_alone (geometry_of m)
+    subst (λ (i : Instruction). OnErr c.load.result (StoppedWithin 0 (events_alone (geometry_of m)
     (operations_by m) (table_in m) i) (V c.args.dram.now).banks (V c.load.new.dram).banks)) (sym is)
     (c.load.ensures.stopped (operations_by m)))
 
@@ -75,6 +75,6 @@ returns-in-Fill-clause-left g c = rw (← c.self.view_is) (
     let V = g.D.Dram.view in
     let is : view_of c.args.instr.now ≡ Fill c.in-Fill.place c.in-Fill.value =
     ap view_of c.in-Fill.is in
-    subst (λ (i : Instruction). OnErr c.fill.result (StoppedWithin (events_alone (geometry_of m)
+    subst (λ (i : Instruction). OnErr c.fill.result (StoppedWithin 0 (events_alone (geometry_of m)
     (operations_by m) (table_in m) i) (V c.args.dram.now).banks (V c.fill.new.dram).banks)) (sym is)
     (c.fill.ensures.stopped (operations_by m)))

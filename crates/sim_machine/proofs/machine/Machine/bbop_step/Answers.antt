@@ -23,5 +23,5 @@ returns-in-Ok-clause-went g c =
       sink_faults = c.wave.ensures.sink_faults;
       comes = bbop_done _ _ _ _ _ _ _ _ _ c.wave.ensures.same is c.requires.bbop
           c.as_slice.result.now _ (c.as_slice.ensures.value ∙ c.in-Ok.ensures.replies)
-          c.in-Ok.ensures.turn c.in-Ok.ensures.did c.in-Ok.ensures.sent;
+          c.in-Ok.ensures.turn c.in-Ok.ensures.did c.in-Ok.ensures.sent c.in-Ok.ensures.unfailed;
     }

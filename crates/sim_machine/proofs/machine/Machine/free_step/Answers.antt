@@ -15,7 +15,7 @@ returns-in-Ok-clause-went g c = rw (← c.self.view_is) (
           (c.free_reply-reply.ensures (geometry_of m) operations)
           (c.free.ensures.table (geometry_of m) operations) refl
           (nothing_done (geometry_of m) operations (table_in m) c.args.name.now _)
-          c.in-Ok.ensures.sent;
+          c.in-Ok.ensures.sent c.in-Ok.ensures.unfailed;
     })
 
 pub returns-in-Err-clause-went : goal.returns-in-Err-clause-went

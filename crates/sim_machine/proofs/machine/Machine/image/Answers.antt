@@ -19,7 +19,7 @@ pub returns-clause-failed : goal.returns-clause-failed
 returns-clause-failed g c = c.read_image.ensures.rose
 
 pub returns-clause-left : goal.returns-clause-left
-returns-clause-left g c = c.read_image.ensures.stopped
+returns-clause-left g c = rw (← c.self.view_is) c.read_image.ensures.stopped
 
 pub returns-clause-file : goal.returns-clause-file
 returns-clause-file g c = rw (← c.self.view_is) (

@@ -27,7 +27,7 @@ returns-in-Ok-put_reply-clause-went g c = rw (← c.self.view_is) (
       comes = done_alone _ _ _ _ _ _ _ _ refl refl refl c.in-Ok.reply (c.in-Ok.ensures.reply
           operations)
           (c.in-Ok.ensures.table operations) refl (c.in-Ok.ensures.did operations)
-          c.in-Ok-put_reply.ensures.sent;
+          c.in-Ok-put_reply.ensures.sent c.in-Ok-put_reply.ensures.unfailed;
     })
 
 pub returns-in-Done-clause-went : goal.returns-in-Done-clause-went

@@ -23,7 +23,7 @@ returns-clause-failed g c =
 
 pub returns-clause-left : goal.returns-clause-left
 returns-clause-left g c =
-    subst (λ (m : State). OnErr c.load.result (StoppedWithin (events_by m (Alone (Load
+    subst (λ (m : State). OnErr c.load.result (StoppedWithin 0 (events_by m (Alone (Load
     c.args.place.now c.args.values.now))) (g.D.Dram.view c.args.dram.now).banks
     (g.D.Dram.view c.load.new.dram).banks)) c.self.view_is
     (c.load.ensures.stopped (operations_by (state_of c.self.inside)))

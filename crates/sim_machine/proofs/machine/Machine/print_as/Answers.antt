@@ -17,6 +17,9 @@ returns-clause-kept g c = c.print.ensures.kept
 pub returns-clause-sink_faults : goal.returns-clause-sink_faults
 returns-clause-sink_faults g c = c.print.ensures.sink_faults
 
+pub returns-clause-unfailed : goal.returns-clause-unfailed
+returns-clause-unfailed g c = c.print.ensures.unfailed
+
 pub returns-clause-no_event : goal.returns-clause-no_event
 returns-clause-no_event g c = c.print.ensures.no_event
 

@@ -1,5 +1,5 @@
+use Rattle.sim_machine.proofs.Common.{arith, refl, ap, Err, ◌∙◌}
 use Rattle.sim_machine.specs.Shown.{state_of}
-use Rattle.sim_machine.proofs.Common.{arith, refl, ap, Err}
 use Rattle.sim_machine.specs.Machine.{operations_by}
 use Rattle.sim_machine.proofs.Printing.{print_done, print_failed, print_refused, print_unsent}
 use Rattle.sim_machine.proofs.machine.Machine.print_step.Goals as goal
@@ -25,7 +25,7 @@ returns-clause-went g c = rw (← c.self.view_is) (
       sink_faults = c.print.ensures.sink_faults;
       comes = print_done _ _ _ _ _ _ _ _ refl c.in-Ok.reply c.in-Done.field-0
           (c.in-Ok.ensures.reply operations) c.in-Done.is (c.in-Ok.ensures.did operations)
-          (c.in-Ok.ensures.sent operations);
+          (c.in-Ok.ensures.sent operations) c.in-Ok.ensures.unfailed;
     })
 
 pub returns-in-Ok-put_reply-clause-went : goal.returns-in-Ok-put_reply-clause-went
@@ -37,7 +37,8 @@ returns-in-Ok-put_reply-clause-went g c = rw (← c.self.view_is) (
       comes = print_refused _ _ _ _ _ _ _ _ refl c.in-Ok.reply c.in-Refused.field-0
           (g.S.Sink.view c.print.new.out) (c.in-Ok.ensures.reply operations) c.in-Refused.is
           (c.in-Ok.ensures.did operations)
-          (c.in-Ok.ensures.sent operations) c.in-Ok-put_reply.ensures.sent;
+          (c.in-Ok.ensures.sent operations) c.in-Ok-put_reply.ensures.sent
+          (c.in-Ok-put_reply.ensures.unfailed ∙ c.in-Ok.ensures.unfailed);
     })
 
 pub returns-in-Err-put_reply-clause-went : goal.returns-in-Err-put_reply-clause-went

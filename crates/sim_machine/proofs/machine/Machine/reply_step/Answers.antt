@@ -26,7 +26,8 @@ returns-in-Ok-put_reply-clause-went g c =
       sink_faults = c.put_reply.ensures.faults;
       comes = done_alone _ _ _ _ _ _ _ _ goes of.0 of.1 c.in-Ok.reply c.in-Ok.ensures.reply
           ((ap table_in c.answer.ensures.same) ∙ same_table c.args.self.now instr c.requires.leaves)
-          c.in-Ok.ensures.turn c.in-Ok.ensures.did c.in-Ok-put_reply.ensures.sent;
+          c.in-Ok.ensures.turn c.in-Ok.ensures.did c.in-Ok-put_reply.ensures.sent
+          c.in-Ok-put_reply.ensures.unfailed;
     }
 
 pub returns-in-Err-put_reply-clause-went : goal.returns-in-Err-put_reply-clause-went

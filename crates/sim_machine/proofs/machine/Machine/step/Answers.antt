@@ -40,6 +40,11 @@ returns-clause-sent g c =
     when_ok _ _ _ _ _ _ _ _ c.step_of.result (λ reply h. h.sent)
     c.step_of.ensures.went.comes
 
+pub returns-clause-unfailed : goal.returns-clause-unfailed
+returns-clause-unfailed g c =
+    when_ok _ _ _ _ _ _ _ _ c.step_of.result (λ reply h. h.unfailed)
+    c.step_of.ensures.went.comes
+
 pub returns-clause-rises : goal.returns-clause-rises
 returns-clause-rises g c =
     when_ok _ _ _ _ _ _ _ _ c.step_of.result (λ reply h. instr_rises c.args.self.now

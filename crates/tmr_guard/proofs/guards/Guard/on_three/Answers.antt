@@ -5,7 +5,7 @@ use Rattle.tmr_guard.specs.Steps.{DidOne, RepliedBy, machine_in}
 use Rattle.tmr_guard.proofs.Exits.{exit_all, exit_first, exit_second, exit_third, moved_one}
 use Rattle.tmr_guard.proofs.Exits.{moved_ran}
 use Rattle.tmr_guard.proofs.Left.{after_one, after_removal, at_first, at_later, in_guarded}
-use Rattle.tmr_guard.proofs.Left.{moved_left, on_err_always}
+use Rattle.tmr_guard.proofs.Left.{moved_left, not_print, on_err_always}
 use Rattle.tmr_guard.proofs.guards.Guard.on_three.Goals as goal
 
 pub returns-in-Refused-clause-replied : goal.returns-in-Refused-clause-replied
@@ -127,7 +127,7 @@ returns-in_err-counts-clause-left g c =
     let b = V c.plain.new.dram in
     on_err_always _ (in_guarded m i (x ∷ y ∷ z ∷ []) a.banks b.banks c.requires.three
     (at_first (geometry_of m) (program_of m) (turn_in m) (table_in m) x (y ∷ z ∷ []) a.banks b.banks
-    c.in_err-counts.ensures.left))
+    (c.in_err-counts.ensures.left (not_print x_letter i c.requires.three))))
 
 pub returns-in_err-counts-2-clause-left : goal.returns-in_err-counts-2-clause-left
 returns-in_err-counts-2-clause-left g c =
@@ -147,7 +147,7 @@ returns-in_err-counts-2-clause-left g c =
     let program1 = ap program_of c.in_ok-counts.ensures.goes_on in
     let left = moved_left (geometry_of m) (geometry_of m1) (program_of m) (program_of m1)
     (turn_in m1) (table_in m1) (piece_of y) b.banks d.banks shape1 program1
-    c.in_err-counts-2.ensures.left in
+    (c.in_err-counts-2.ensures.left (not_print y_letter i c.requires.three)) in
     on_err_always _ (in_guarded m i (x ∷ y ∷ z ∷ []) a.banks d.banks
     c.requires.three (at_later (geometry_of m) (program_of m) _ _ _ _ x (y ∷ z ∷ [])
     c.in-Done.counts a b d.banks one
@@ -207,7 +207,7 @@ returns-in_err-counts-3-clause-left g c =
     let program2 = ap program_of c.in_ok-counts-2.ensures.goes_on ∙ program1 in
     let left = moved_left (geometry_of m) (geometry_of m2) (program_of m) (program_of m2)
     (turn_in m2) (table_in m2) (piece_of z) d.banks e.banks shape2 program2
-    c.in_err-counts-3.ensures.left in
+    (c.in_err-counts-3.ensures.left (not_print z_letter i c.requires.three)) in
     on_err_always _ (in_guarded m i (x ∷ y ∷ z ∷ []) a.banks e.banks
     c.requires.three (at_later (geometry_of m) (program_of m) _ _ _ _ x (y ∷ z ∷ [])
     c.in-Done.counts a b e.banks one

@@ -1,4 +1,5 @@
-use Rattle.tmr_guard.proofs.Common.{subst, Instruction, view_of, StoppedWithin, piece_of}
+use Rattle.tmr_guard.proofs.Common.{subst, Instruction, view_of, StoppedWithin, piece_of, is_print}
+use Rattle.tmr_guard.proofs.Common.{◌≡◌, false}
 use Rattle.sim_machine.specs.Machine.{events_by as plain_events}
 use Rattle.tmr_guard.specs.Steps.{DidOne, machine_in}
 use Rattle.tmr_guard.proofs.Bounded.{few_commands}
@@ -24,6 +25,7 @@ returns-in-Ok-done-clause-few g c =
 pub returns-clause-left : goal.returns-clause-left
 returns-clause-left g c =
     let V = g.D.Dram.view in
-    subst (λ (i : Instruction). StoppedWithin (plain_events (machine_in c.args.self.now)
-    (piece_of i)) (V c.args.dram.now).banks (V c.done.new.dram).banks) c.copied.ensures
+    subst (λ (i : Instruction). is_print i ≡ false → StoppedWithin 0
+    (plain_events (machine_in c.args.self.now) (piece_of i)) (V c.args.dram.now).banks
+    (V c.done.new.dram).banks) c.copied.ensures
     c.in-Err-done.ensures.left

@@ -1,4 +1,4 @@
-use Rattle.tmr_guard.proofs.Common.{ap, arith, Err, table_in, turn_in}
+use Rattle.tmr_guard.proofs.Common.{ap, arith, Err, table_in, turn_in, ◌∙◌}
 use Rattle.tmr_guard.specs.Steps.{machine_in}
 use Rattle.tmr_guard.proofs.Shown.{print_broke, print_refused, print_shown, print_unsent}
 use Rattle.tmr_guard.proofs.guards.Guard.print_step.Goals as goal
@@ -21,7 +21,7 @@ returns-clause-came g c =
     (g.S.Sink.view c.args.out.now) (g.S.Sink.view c.print_as.new.out) c.copy_place-copy.ensures
     c.in-Ok.reply c.in-Done.field-0 c.in-Ok.ensures.reply c.in-Done.is
     (ap table_in c.print_as.ensures.same) (ap turn_in c.print_as.ensures.same)
-    c.in-Ok.ensures.did c.in-Ok.ensures.rises c.in-Ok.ensures.sent
+    c.in-Ok.ensures.did c.in-Ok.ensures.rises c.in-Ok.ensures.sent c.in-Ok.ensures.unfailed
 
 pub returns-in-Ok-put_reply-clause-came : goal.returns-in-Ok-put_reply-clause-came
 returns-in-Ok-put_reply-clause-came g c =
@@ -31,6 +31,7 @@ returns-in-Ok-put_reply-clause-came g c =
     c.in-Ok.reply c.in-Refused.field-0 (g.S.Sink.view c.print_as.new.out) c.in-Ok.ensures.reply
     c.in-Refused.is (ap table_in c.print_as.ensures.same) (ap turn_in c.print_as.ensures.same)
     c.in-Ok.ensures.did c.in-Ok.ensures.rises c.in-Ok.ensures.sent c.in-Ok-put_reply.ensures.sent
+    (c.in-Ok-put_reply.ensures.unfailed ∙ c.in-Ok.ensures.unfailed)
 
 pub returns-in-Err-put_reply-clause-came : goal.returns-in-Err-put_reply-clause-came
 returns-in-Err-put_reply-clause-came g c =

@@ -14,7 +14,7 @@ returns-in-Ok-put_reply-clause-came g c =
     reply_guarded (machine_in c.args.self.now) _ c.args.number (view_of c.args.instr.now)
     c.in-Ok.reply (g.D.Dram.view c.args.dram.now) _ (g.S.Sink.view c.args.out.now) _
     c.requires.silent c.in-Ok.ensures.replied.answer c.in-Ok.ensures.replied.ran
-    c.in-Ok.ensures.rises c.in-Ok-put_reply.ensures.sent
+    c.in-Ok.ensures.rises c.in-Ok-put_reply.ensures.sent c.in-Ok-put_reply.ensures.unfailed
 
 pub returns-in-Err-put_reply-clause-came : goal.returns-in-Err-put_reply-clause-came
 returns-in-Err-put_reply-clause-came g c =

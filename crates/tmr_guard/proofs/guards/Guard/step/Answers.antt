@@ -35,6 +35,10 @@ pub returns-clause-sent : goal.returns-clause-sent
 returns-clause-sent g c =
     when_ok _ _ _ _ _ _ _ _ c.step_of.result (λ reply h. h.sent) c.step_of.ensures.came
 
+pub returns-clause-unfailed : goal.returns-clause-unfailed
+returns-clause-unfailed g c =
+    when_ok _ _ _ _ _ _ _ _ c.step_of.result (λ reply h. h.unfailed) c.step_of.ensures.came
+
 pub returns-clause-chip_fault : goal.returns-clause-chip_fault
 returns-clause-chip_fault g c =
     when_fault _ _ _ _ _ _ _ _ c.step_of.result ChipFault (λ f e h. h.chip_rose e)
