@@ -1,22 +1,19 @@
 -- A `cost` of what `compile` stored sends the exact commands of its ops.
-use Rattle.std.proofs.Common.{◌≡◌, ℕ, ◌<◌, ◌≤◌, Bool, List, [], ◌∷◌, ◌++◌, map, refl, sym, ap}
-use Rattle.std.proofs.Common.{◌∙◌, subst, inr}
-use Rattle.std.specs.Prelude.{Ok, codes}
-use Rattle.std.specs.List.{AllByRecursion, flat_map}
+use Rattle.cli_laws.proofs.Common.{◌≡◌, ℕ, ◌<◌, ◌≤◌, Bool, List, [], ◌∷◌, ◌++◌, map, refl, sym, ap}
+use Rattle.cli_laws.proofs.Common.{◌∙◌, subst, inr, Ok, AllByRecursion, WIDTH_MAX, Known, Operation}
+use Rattle.cli_laws.proofs.Common.{counts_of, issues_of, trace, Microprogram, ImplementsAll}
+use Rattle.cli_laws.proofs.Common.{text_op, AreExact, file_is_one, Program}
+use Rattle.std.specs.Prelude.{codes}
+use Rattle.std.specs.List.{flat_map}
 use Rattle.std.proofs.lemmas.List.Concat.{flat_map-cons}
 use Rattle.std.proofs.lemmas.List.Elements.{recursion_from_All}
-use Rattle.bit_rows.specs.declared.TheConstants.{WIDTH_MAX}
-use Rattle.host_edge.specs.Views.{Known}
-use Rattle.op_text.specs.Language.{Operation}
-use Rattle.uprog_code.specs.Count.{counts_of, walked}
-use Rattle.uprog_code.specs.Machine.{HasEnded, Trace, Ended, Stuck, issues_of, trace}
-use Rattle.uprog_code.specs.Shape.{Microprogram, Shape}
-use Rattle.uprog_code.specs.Texts.{EntryDoes, ImplementsAll, op_shape, text_op}
-use Rattle.uprog_gen.specs.Totals.{AreExact, IsExact, op_counts}
-use Rattle.uprog_bin.proofs.Versions.{file_is_one}
+use Rattle.uprog_code.specs.Count.{walked}
+use Rattle.uprog_code.specs.Machine.{HasEnded, Trace, Ended, Stuck}
+use Rattle.uprog_code.specs.Shape.{Shape}
+use Rattle.uprog_code.specs.Texts.{EntryDoes, op_shape}
+use Rattle.uprog_gen.specs.Totals.{IsExact, op_counts}
 use Rattle.prog_text.specs.Costs.{at_text, cost_line, cost_lines, cost_text, costs}
 use Rattle.prog_text.specs.Widths.{is_single}
-use Rattle.machine_model.specs.Routines.{Program}
 use Rattle.simdram_cli.specs.declared.account.ProgramAccount.TheVariants.{Listing, Costs}
 use Rattle.cli_laws.specs.Costs.{CostsOfCompiled, blocks_of, exact_costs, exact_line}
 use Rattle.cli_laws.proofs.Unique.{one_value}

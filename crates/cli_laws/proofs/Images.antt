@@ -1,32 +1,27 @@
 -- An accepted image is never too long, and its objects are ones that an image may have.
-use Rattle.std.proofs.Common.{◌≡◌, ℕ, zero, suc, ◌+◌, ◌*◌, ◌≤◌, true, List, [], ◌∷◌, ◌++◌}
-use Rattle.std.proofs.Common.{length, length-append, ap, refl, subst, arith}
-use Rattle.std.specs.Prelude.{All, Option, Some, None, Result, Ok, Err, ◌&&◌, nat_le}
+use Rattle.cli_laws.proofs.Common.{◌≡◌, ℕ, ◌+◌, ◌≤◌, true, List, [], ◌∷◌, ◌++◌, length, ap, refl}
+use Rattle.cli_laws.proofs.Common.{subst, arith, Option, Some, None, Result, Ok, Err, result_ok}
+use Rattle.cli_laws.proofs.Common.{WIDTH_MAX, Geometry, Named, IsObject, Found, ImageFault}
+use Rattle.cli_laws.proofs.Common.{image_in, Image, IMAGE_MAX, read_as, image_found, image_of}
+use Rattle.cli_laws.proofs.Common.{image_or_refusal}
+use Rattle.std.proofs.Common.{zero, suc, ◌*◌, length-append}
+use Rattle.std.specs.Prelude.{All, ◌&&◌, nat_le}
 use Rattle.std.specs.Int.{w8, w16, w32}
-use Rattle.std.specs.Result.{result_ok}
 use Rattle.std.proofs.lemmas.List.Elements.{All-push}
-use Rattle.bit_rows.specs.declared.TheConstants.{WIDTH_MAX}
 use Rattle.std.proofs.lemmas.Bool.{leb-true}
 use Rattle.file_fields.specs.Fields.{◌>>=◌, rule}
 use Rattle.file_fields.proofs.Held.{bind_ok, field_passes, ok_is}
 use Rattle.file_fields.proofs.Padded.{between_is, both}
-use Rattle.dram_model.specs.declared.geometry.Geometry.{Geometry}
 use Rattle.dram_model.specs.Geometry.{fits_size, is_between}
 use Rattle.dram_model.specs.Elements.{column_count}
 use Rattle.object_alloc.specs.declared.fault.ImageKind.{ImageKind}
-use Rattle.object_alloc.specs.declared.fault.ImageKind.TheVariants as kinds
 use Rattle.object_alloc.specs.Free.{are_free}
-use Rattle.object_alloc.specs.Listed.{Named, limit_of, objects_of}
-use Rattle.object_alloc.specs.Spelling.{IsObject}
-use Rattle.object_alloc.specs.Reading.{Found, ImageFault, count_at, field_at, geometry_at}
-use Rattle.object_alloc.specs.Reading.{image_in, name_at, object_at, objects_at, opening_in}
-use Rattle.object_alloc.specs.Reading.{place_at, rows_at, rows_start}
+use Rattle.object_alloc.specs.Listed.{limit_of, objects_of}
+use Rattle.object_alloc.specs.Reading.{count_at, field_at, geometry_at, name_at, object_at}
+use Rattle.object_alloc.specs.Reading.{objects_at, opening_in, place_at, rows_at, rows_start}
 use Rattle.object_alloc.specs.Reading.{table_at}
 use Rattle.object_alloc.proofs.Images.{rows_take}
-use Rattle.machine_model.specs.Opened.{Image}
-use Rattle.simdram_cli.specs.declared.words.TheConstants.{IMAGE_MAX}
-use Rattle.simdram_cli.specs.Headline.{read_as}
-use Rattle.simdram_cli.specs.Inputs.{image_found, image_of, image_or_refusal}
+use Rattle.object_alloc.specs.declared.fault.ImageKind.TheVariants as kinds
 
 -- so many objects are read
 objects_counted : (n : ℕ) (g : Geometry) (earlier : List Named) (at : ℕ) (bytes : List ℕ)

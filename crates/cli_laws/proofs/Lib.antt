@@ -1,4 +1,6 @@
+pub mod Common
 pub mod Costs
+pub mod Faults
 pub mod Images
 pub mod Replays
 pub mod Scans

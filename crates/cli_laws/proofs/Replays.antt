@@ -1,39 +1,25 @@
 -- A replay accepts what a recorded execution stored, and leaves what it left.
-use Rattle.std.proofs.Common.{◌≡◌, ◌≤◌, ℕ, true, cond, List, Option, Some}
-use Rattle.std.proofs.Common.{None, refl, sym, ◌∙◌, ap, subst, length, inl}
-use Rattle.std.specs.Prelude.{◌==◌, Result, Ok, Err, IfSome}
-use Rattle.std.specs.List.{list_any}
-use Rattle.std.specs.Result.{result_ok}
-use Rattle.dram_model.specs.declared.geometry.Geometry.{Geometry}
-use Rattle.host_edge.specs.Views.{Files}
-use Rattle.object_alloc.specs.Reading.{Found, ImageFault, image_in}
-use Rattle.object_alloc.specs.Spelling.{image_bytes}
-use Rattle.machine_model.specs.Opened.{Image, rows_in_banks}
-use Rattle.trace_model.specs.Spelling.{Trace, bytes_of_trace}
+use Rattle.cli_laws.proofs.Common.{◌≡◌, ◌≤◌, ℕ, true, cond, List, Option, Some, None, refl, sym}
+use Rattle.cli_laws.proofs.Common.{◌∙◌, ap, subst, length, inl, ◌==◌, Result, Ok, Err, IfSome}
+use Rattle.cli_laws.proofs.Common.{list_any, result_ok, Geometry, Files, Found, ImageFault}
+use Rattle.cli_laws.proofs.Common.{image_in, image_bytes, Image, rows_in_banks, Trace}
+use Rattle.cli_laws.proofs.Common.{bytes_of_trace, replayed, files_are_exact, World, Reason}
+use Rattle.cli_laws.proofs.Common.{CannotRead, TooLong, Refused, NoMemory, CannotWrite, PutFailed}
+use Rattle.cli_laws.proofs.Common.{ChipFailed, reason_status, Ended, All, At, EndsSo, IsForetold}
+use Rattle.cli_laws.proofs.Common.{last_status, steps_of, EndsBy, LeavesAt, at_own, TraceNames}
+use Rattle.cli_laws.proofs.Common.{IMAGE_MAX, read_as, image_found, image_of, image_or_refusal}
+use Rattle.cli_laws.proofs.Common.{Traced, trace_of}
 use Rattle.trace_model.specs.Reading.{trace_in}
-use Rattle.trace_model.specs.Replay.{replayed}
-use Rattle.trace_model.proofs.Files.{files_are_exact}
-use Rattle.cli_model.specs.World.{World}
-use Rattle.cli_model.specs.Steps.{Reason, CannotRead, TooLong, Refused}
-use Rattle.cli_model.specs.Steps.{NoMemory, CannotWrite, PutFailed, ChipFailed}
-use Rattle.cli_model.specs.Status.{reason_status}
-use Rattle.cli_model.specs.Ends.{Ended, All, At, EndsSo, IsFault, IsForetold}
-use Rattle.cli_model.specs.Plan.{Plan, last_status, steps_of}
-use Rattle.cli_model.specs.Runs.{EndsBy, LeavesAt}
-use Rattle.cli_model.proofs.Files.{at_own}
+use Rattle.cli_model.specs.Ends.{IsFault}
+use Rattle.cli_model.specs.Plan.{Plan}
 use Rattle.cli_model.proofs.Giving.{steps_give}
 use Rattle.cli_model.proofs.Good.{end_good, stop_by_fault}
 use Rattle.cli_model.proofs.Owed.{GoodFor}
 use Rattle.simdram_cli.specs.declared.words.Command.TheVariants.{Replay}
 use Rattle.simdram_cli.specs.declared.words.ReplayNames.{ReplayNames}
-use Rattle.simdram_cli.specs.declared.words.TraceNames.{TraceNames}
-use Rattle.simdram_cli.specs.declared.words.TheConstants.{IMAGE_MAX}
 use Rattle.simdram_cli.specs.Commands.{CanAnswer}
-use Rattle.simdram_cli.specs.Headline.{read_as}
-use Rattle.simdram_cli.specs.Inputs.{image_found, image_of, image_or_refusal}
 use Rattle.simdram_cli.specs.Replay.{replay_plan}
 use Rattle.simdram_cli.specs.Traces.{geometry_differs, if_same, image_for, trace_or_refusal}
-use Rattle.simdram_cli.specs.Tracing.{Traced, trace_of}
 use Rattle.simdram_cli.proofs.Planned.{IsFailing, failing_apart, zero_tells}
 use Rattle.simdram_cli.proofs.Replaying.{geometry_same, none_loads, replay_gives}
 use Rattle.cli_laws.specs.Replays.{IsDoneUnlessFault, TracesAreAccepted, TracesReplay}

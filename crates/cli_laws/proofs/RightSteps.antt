@@ -1,26 +1,19 @@
 -- Scripts whose bbops have widths at which entries of a program are right.
-use Rattle.std.proofs.Common.{◌≡◌, ℕ, ◌<◌, Bool, true, false, cond, List, [], ◌∷◌, Option, Some}
-use Rattle.std.proofs.Common.{refl, sym, ◌∙◌, ap, subst}
-use Rattle.std.specs.Prelude.{◌==◌, ◌||◌}
-use Rattle.std.specs.List.{AllByRecursion, list_any}
-use Rattle.std.specs.Option.{option_map}
+use Rattle.cli_laws.proofs.Common.{◌≡◌, ℕ, ◌<◌, Bool, true, false, cond, List, [], ◌∷◌, Option}
+use Rattle.cli_laws.proofs.Common.{Some, refl, sym, ◌∙◌, ap, subst, ◌==◌, ◌||◌, AllByRecursion}
+use Rattle.cli_laws.proofs.Common.{list_any, option_map, Geometry, Instruction, Microprogram, trace}
+use Rattle.cli_laws.proofs.Common.{issues_of, TextOp, Program, entry_named, routines_in, routine_of}
+use Rattle.cli_laws.proofs.Common.{meaning_in, IsPlain, HaveRight}
 use Rattle.std.specs.Str.{bytes_eq}
 use Rattle.std.proofs.lemmas.Bool.{eqb-true}
-use Rattle.dram_model.specs.declared.geometry.Geometry.{Geometry}
-use Rattle.bbop_isa.specs.Forms.{Instruction}
 use Rattle.bbop_isa.specs.Forms.{Init, Bbop, Load, Fill, Print, Free, Order}
-use Rattle.uprog_code.specs.Shape.{Microprogram}
-use Rattle.uprog_code.specs.Machine.{trace, issues_of}
-use Rattle.uprog_code.specs.Texts.{TextOp}
-use Rattle.machine_model.specs.Routines.{Program, Routine, Performs, entry_named, text_op_named}
-use Rattle.machine_model.specs.Routines.{routines_in, routine_of, meaning_in, meaning_of}
-use Rattle.machine_model.specs.Agrees.{IsPlain}
+use Rattle.machine_model.specs.Routines.{Routine, Performs, text_op_named, meaning_of}
 use Rattle.machine_model.proofs.Places.{same_bytes}
 use Rattle.machine_model.proofs.Steps.{DoesOne, StepAgrees, bbop_agrees, free_agrees, order_agrees}
 use Rattle.machine_model.proofs.Steps.{print_agrees}
 use Rattle.machine_model.proofs.Makes.{init_agrees, fill_agrees}
 use Rattle.machine_model.proofs.Loaded.{load_agrees}
-use Rattle.verify_job.specs.Findings.{HasRight, HaveRight}
+use Rattle.verify_job.specs.Findings.{HasRight}
 use Rattle.cli_laws.specs.Verified.{IsAtWidths}
 
 -- the entry of a name, and that it performs this meaning at this width

@@ -1,25 +1,20 @@
 -- The files at entry decide what a scan tells.
-use Rattle.std.proofs.Common.{◌≡◌, ◌⊎◌, ℕ, ◌<◌, ◌≤◌, Bool, true, false, cond, List, [], ◌∷◌, ◌++◌}
-use Rattle.std.proofs.Common.{map, Option, Some, None, refl, sym, ◌∙◌, ap, subst, inl, inr}
-use Rattle.std.proofs.Common.{append-nil, append_assoc, arith}
-use Rattle.std.specs.Prelude.{All as Each, IfSome, IfErr, bytes_eq}
-use Rattle.std.specs.List.{AllByRecursion}
-use Rattle.std.specs.Option.{option_map}
-use Rattle.std.specs.Result.{result_ok}
-use Rattle.bit_rows.specs.declared.TheConstants.{WIDTH_MAX}
+use Rattle.cli_laws.proofs.Common.{◌≡◌, ◌⊎◌, ℕ, ◌<◌, ◌≤◌, Bool, true, false, cond, List, [], ◌∷◌}
+use Rattle.cli_laws.proofs.Common.{◌++◌, map, Option, Some, None, refl, sym, ◌∙◌, ap, subst, inl}
+use Rattle.cli_laws.proofs.Common.{inr, append-nil, append_assoc, arith, IfSome, bytes_eq}
+use Rattle.cli_laws.proofs.Common.{AllByRecursion, option_map, result_ok, WIDTH_MAX, Files, Known}
+use Rattle.cli_laws.proofs.Common.{Operation, IsObject, counts_of, Microprogram, ImplementsAll}
+use Rattle.cli_laws.proofs.Common.{text_op, AreExact, Image, opened, Program, Routines, entry_named}
+use Rattle.cli_laws.proofs.Common.{routine_of, routines_in, World, All, At, Ended, EndsSo}
+use Rattle.cli_laws.proofs.Common.{IsForetold, foreseen, AreTexts, Way, last_status, refused_last}
+use Rattle.cli_laws.proofs.Common.{steps_of, EndsBy, LeavesAt, TellsLast, Done, Load, ChipUse}
+use Rattle.cli_laws.proofs.Common.{refused_so, IMAGE_MAX, read_as, image_of, opening, image_refuses}
+use Rattle.std.specs.Prelude.{All as Each, IfErr}
 use Rattle.dram_model.specs.View.{ChipView}
-use Rattle.host_edge.specs.Views.{AppendsPart, Files, Known}
-use Rattle.op_text.specs.Language.{Operation}
-use Rattle.object_alloc.specs.Spelling.{IsObject}
+use Rattle.host_edge.specs.Views.{AppendsPart}
 use Rattle.uprog_code.specs.declared.walker.Counts.{Counts}
-use Rattle.uprog_code.specs.Count.{counts_of}
-use Rattle.uprog_code.specs.Shape.{Microprogram}
-use Rattle.uprog_code.specs.Texts.{ImplementsAll, text_op}
-use Rattle.uprog_gen.specs.Totals.{AreExact}
 use Rattle.uprog_gen.proofs.Costs.Blocks.{AllWords, words_cost_the_same}
 use Rattle.machine_model.specs.declared.Why.{Why}
-use Rattle.machine_model.specs.Opened.{Image, opened}
-use Rattle.machine_model.specs.Routines.{Program, Routines, entry_named, routine_of, routines_in}
 use Rattle.machine_model.specs.Steps.{issues_at}
 use Rattle.machine_model.proofs.Texts.{same_operations}
 use Rattle.scan_model.specs.declared.QueryFault.{QueryFault}
@@ -34,29 +29,20 @@ use Rattle.scan_model.specs.Texts.{fault_in}
 use Rattle.scan_model.proofs.Alike.{scans_answer_the_same}
 use Rattle.scan_model.proofs.Accepted.{once}
 use Rattle.scan_model.proofs.Parts.{written_parts}
-use Rattle.cli_model.specs.World.{World}
-use Rattle.cli_model.specs.Ends.{All, At, AppendsAfter, Ended, EndsSo, IsAllDone, IsForetold, Sends}
-use Rattle.cli_model.specs.Foreseen.{foreseen}
-use Rattle.cli_model.specs.Plan.{AreTexts, Leaves, Way, last_status, refused_last, steps_of}
-use Rattle.cli_model.specs.Runs.{EndsBy, LeavesAt, TellsLast}
+use Rattle.cli_model.specs.Ends.{AppendsAfter, IsAllDone, Sends}
+use Rattle.cli_model.specs.Plan.{Leaves}
 use Rattle.cli_model.specs.Stands.{sent_by}
 use Rattle.cli_model.specs.Status.{Says}
-use Rattle.cli_model.specs.Steps.{Done, Load, Take}
-use Rattle.cli_model.specs.Waves.{ChipUse}
+use Rattle.cli_model.specs.Steps.{Take}
 use Rattle.cli_model.proofs.Delivering.{load_there}
-use Rattle.cli_model.proofs.Giving.{refused_so}
 use Rattle.cli_model.proofs.Going.{known_sent, within}
 use Rattle.cli_model.proofs.Statuses.{OfSteps, all_done, of_more}
 use Rattle.simdram_cli.specs.declared.words.ScanNames.{ScanNames}
-use Rattle.simdram_cli.specs.declared.words.TheConstants.{IMAGE_MAX, QUERY_MAX}
-use Rattle.simdram_cli.specs.Headline.{read_as}
-use Rattle.simdram_cli.specs.Inputs.{image_of}
-use Rattle.simdram_cli.specs.Job.{opening}
+use Rattle.simdram_cli.specs.declared.words.TheConstants.{QUERY_MAX}
 use Rattle.simdram_cli.specs.Queries.{Asks, AsksIn, query_in, scan_refusal, unless_broken}
-use Rattle.simdram_cli.specs.Scan.{DoesScans, ScanLeft, Scanned, answer_on, answer_plan}
-use Rattle.simdram_cli.specs.Scan.{count_line, number_found, scan_counters, scan_counts}
-use Rattle.simdram_cli.specs.Scan.{query_use, scan_plan, use_steps}
-use Rattle.simdram_cli.proofs.JobPlans.{image_refuses}
+use Rattle.simdram_cli.specs.Scan.{DoesScans, ScanLeft, Scanned, answer_on, answer_plan, count_line}
+use Rattle.simdram_cli.specs.Scan.{number_found, scan_counters, scan_counts, query_use, scan_plan}
+use Rattle.simdram_cli.specs.Scan.{use_steps}
 use Rattle.cli_laws.specs.Unique.{OneAnswered, OneScanned, Tells}
 use Rattle.cli_laws.proofs.Images.{image_objects}
 use Rattle.cli_laws.proofs.Unique.{one_value}
@@ -212,7 +198,7 @@ broken_so : (P : ℕ → Type 0) (fault : Option QueryFault) → P 15
 broken_so P None fifteen = tt
 broken_so P (Some fault) fifteen = fifteen
 
-use_so : (P : ℕ → Type 0) (on : Option ChipUse) (fault : Option (ScanWhy × ℕ)) → P 9
+use_so : (P : ℕ → Type 0) (on : ChipUse) (fault : Option (ScanWhy × ℕ)) → P 9
     → OfSteps P (use_steps on fault)
 use_so P on None nine = (nine, tt)
 use_so P on (Some fault) nine = tt
@@ -282,7 +268,7 @@ counted_sent line a b c sent same =
     (subst (λ (w : World). Known (λ x y. y ≡ x ++ (line ++ [])) a.sink.sent w.sink.sent)
     (sym same) sent)
 
-tells_so : (left : ChipView → Type 0) (x : Answer) (on : Option ChipUse)
+tells_so : (left : ChipView → Type 0) (x : Answer) (on : ChipUse)
     (fault : Option (ScanWhy × ℕ))
     (way : Way (answer_plan left x)) (a b c : World) (status : ℕ)
     → status ≡ last_status (answer_plan left x) way

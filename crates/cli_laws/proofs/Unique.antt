@@ -1,39 +1,26 @@
 -- What the files at entry decide.
-use Rattle.std.proofs.Common.{◌≡◌, ◌≢◌, ℕ, Bool, true, false, List, length, map, Option, Some}
-use Rattle.std.proofs.Common.{None, refl, sym, ◌∙◌, ap, inr}
-use Rattle.std.specs.Prelude.{bytes_eq}
-use mathlib.Core.Path.{fun_ext}
+use Rattle.cli_laws.proofs.Common.{◌≡◌, ◌≢◌, ℕ, Bool, true, false, List, length, map, Option, Some}
+use Rattle.cli_laws.proofs.Common.{None, refl, sym, ◌∙◌, ap, inr, bytes_eq, Files, Banks}
+use Rattle.cli_laws.proofs.Common.{image_bytes, Operation, text_op, file_is_one, Instruction, Image}
+use Rattle.cli_laws.proofs.Common.{rows_in_banks, Program, Trace, bytes_of_trace, replayed}
+use Rattle.cli_laws.proofs.Common.{files_are_exact, World, ExecNames, TraceNames, Executed, read_as}
+use Rattle.cli_laws.proofs.Common.{Traced, trace_of, at_own}
 use Rattle.std.proofs.lemmas.Slice.Eq.{bytes_eq-Decides}
-use Rattle.host_edge.specs.Views.{Files}
-use Rattle.dram_model.specs.Chip.{Banks}
-use Rattle.object_alloc.specs.Spelling.{image_bytes}
-use Rattle.op_text.specs.Language.{Operation}
 use Rattle.op_text.proofs.Meeting.{ops_of_a_text_are_one}
-use Rattle.uprog_code.specs.Texts.{text_op}
-use Rattle.uprog_bin.proofs.Versions.{file_is_one}
-use Rattle.bbop_isa.specs.Forms.{Instruction}
-use Rattle.machine_model.specs.Opened.{Image, rows_in_banks}
-use Rattle.machine_model.specs.Routines.{Program}
 use Rattle.guard_model.specs.declared.Flip.{Flip}
-use Rattle.trace_model.specs.Spelling.{Trace, bytes_of_trace}
-use Rattle.trace_model.specs.Replay.{replayed, script_trace}
-use Rattle.trace_model.proofs.Files.{files_are_exact}
-use Rattle.cli_model.specs.World.{World}
-use Rattle.simdram_cli.specs.declared.words.ExecNames.{ExecNames}
+use Rattle.trace_model.specs.Replay.{script_trace}
 use Rattle.simdram_cli.specs.declared.words.GuardNames.{GuardNames}
-use Rattle.simdram_cli.specs.declared.words.TraceNames.{TraceNames}
-use Rattle.simdram_cli.specs.Exec.{Executed}
 use Rattle.simdram_cli.specs.Flips.{flips_in}
-use Rattle.simdram_cli.specs.Guard.{GuardJob, Guarded, guard_job, image_at_last}
-use Rattle.simdram_cli.specs.Guard.{refused_of, table_at_last}
-use Rattle.simdram_cli.specs.Headline.{Spells, read_as}
+use Rattle.simdram_cli.specs.Guard.{GuardJob, Guarded, guard_job, image_at_last, refused_of}
+use Rattle.simdram_cli.specs.Guard.{table_at_last}
+use Rattle.simdram_cli.specs.Headline.{Spells}
 use Rattle.simdram_cli.specs.Job.{done_status, image_by, refused_by}
 use Rattle.simdram_cli.specs.Replay.{image_replayed}
-use Rattle.simdram_cli.specs.Tracing.{Traced, exec_of, trace_of, unlogged_world}
+use Rattle.simdram_cli.specs.Tracing.{exec_of, unlogged_world}
 use Rattle.cli_laws.proofs.Replays.{same_ok}
-use Rattle.cli_laws.specs.Unique.{OneExecuted, OneGuardedJob, OneRecorded, OneReplayed}
-use Rattle.cli_laws.specs.Unique.{SameGuarded, SameInputs, SameWork}
-use Rattle.cli_model.proofs.Files.{at_own}
+use Rattle.cli_laws.specs.Unique.{OneExecuted, OneGuardedJob, OneRecorded, OneReplayed, SameGuarded}
+use Rattle.cli_laws.specs.Unique.{SameInputs, SameWork}
+use mathlib.Core.Path.{fun_ext}
 
 pub one_value : {A : Type 0} (o : Option A) (x y : A) → o ≡ Some x → o ≡ Some y → x ≡ y
 one_value {A = A} o x y e f = let g : ◌≡◌ {A = Option A} (Some x) (Some y) = sym e ∙ f in cc

@@ -1,33 +1,22 @@
 -- What a `verify` found right, and what an execution gives; and what OPS and PROG decide.
-use Rattle.std.proofs.Common.{◌≡◌, ◌⊎◌, ℕ, List, ◌++◌, map, Option, Some, refl, sym, ◌∙◌, ap}
-use Rattle.std.proofs.Common.{subst}
-use Rattle.std.specs.List.{AllByRecursion}
-use Rattle.std.specs.Result.{result_ok}
-use Rattle.host_edge.specs.Views.{Files, Known}
-use Rattle.dram_model.specs.Chip.{Banks}
-use Rattle.object_alloc.specs.Listed.{Named}
-use Rattle.object_alloc.specs.Spelling.{image_bytes}
-use Rattle.op_text.specs.Language.{Operation}
-use Rattle.uprog_code.specs.Texts.{TextOp, text_op}
+use Rattle.cli_laws.proofs.Common.{◌≡◌, ◌⊎◌, ℕ, List, ◌++◌, map, Option, Some, refl, sym, ◌∙◌, ap}
+use Rattle.cli_laws.proofs.Common.{subst, AllByRecursion, result_ok, Files, Known, Banks, Named}
+use Rattle.cli_laws.proofs.Common.{image_bytes, Operation, TextOp, text_op, opened, rows_in_banks}
+use Rattle.cli_laws.proofs.Common.{Said, said_in_rows, Program, meaning_in, routines_in}
+use Rattle.cli_laws.proofs.Common.{banks_at_end, table_at_end, HaveRight, World, ExecNames}
+use Rattle.cli_laws.proofs.Common.{Executed, read_as, prog_in}
 use Rattle.uprog_bin.specs.Opened.{IsProgramFile}
 use Rattle.uprog_bin.specs.Spelling.{program_bytes}
 use Rattle.machine_model.specs.Agrees.{Agrees}
-use Rattle.machine_model.specs.Opened.{objects_held, opened, rows_in_banks}
-use Rattle.machine_model.specs.Report.{Said, report, said_in_rows}
-use Rattle.machine_model.specs.Routines.{Program, meaning_in, routines_in}
-use Rattle.machine_model.specs.Script.{banks_at_end, table_at_end}
+use Rattle.machine_model.specs.Opened.{objects_held}
+use Rattle.machine_model.specs.Report.{report}
 use Rattle.machine_model.specs.Steps.{table_of}
 use Rattle.machine_model.proofs.Opened.{opened_agrees, report_same}
 use Rattle.machine_model.proofs.Scripts.{script_agrees}
-use Rattle.verify_job.specs.Findings.{AreFindings, HaveRight}
+use Rattle.verify_job.specs.Findings.{AreFindings}
 use Rattle.verify_job.proofs.Apart.{all_alike, zero_or_unknown}
-use Rattle.cli_model.specs.World.{World}
-use Rattle.simdram_cli.specs.declared.words.ExecNames.{ExecNames}
 use Rattle.simdram_cli.specs.declared.words.VerifyNames.{VerifyNames}
-use Rattle.simdram_cli.specs.Exec.{Executed}
-use Rattle.simdram_cli.specs.Headline.{read_as}
 use Rattle.simdram_cli.specs.Job.{replies_by, said_in}
-use Rattle.simdram_cli.specs.Programs.{prog_in}
 use Rattle.simdram_cli.specs.Verify.{Verified}
 use Rattle.simdram_cli.proofs.Migrating.{prog_is}
 use Rattle.simdram_cli.proofs.Promises.{table_is, tables_end}

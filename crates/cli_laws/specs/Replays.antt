@@ -22,7 +22,7 @@ TracesReplay =
     → later again.out.now ≡ after recorded.out.now
 
 -- all steps of a command were done, or a fault stopped it that no file foretells: a call failed, or
--- memory was wanting
+-- it was out of memory
 abbrev pub IsDoneUnlessFault : Ended → Type 0
 IsDoneUnlessFault All = Unit {0}
 IsDoneUnlessFault (At stop) = IsFault stop.reason
@@ -34,7 +34,7 @@ statuses_by_fault = 0 ∷ 2 ∷ 3 ∷ 9 ∷ 10 ∷ []
 
 -- Where a replay finds the TRACE that a recorded execution stored and the IMAGE that it read, no
 -- file is at fault: neither is too long, neither is refused, and they have one geometry. So it is
--- done, unless a call fails or memory is wanting
+-- done, unless a call fails or it is out of memory
 abbrev pub TracesAreAccepted : Type 0
 TracesAreAccepted =
     (recorded : TraceNames) (again : ReplayNames) (before after found : Files)

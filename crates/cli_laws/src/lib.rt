@@ -2,6 +2,7 @@
 #![tactic(auto)]
 
 ghost use Rattle.cli_laws.specs.Costs.{CostsOfCompiled};
+ghost use Rattle.cli_laws.specs.Faults.{FaultsSpareRows};
 ghost use Rattle.cli_laws.specs.Replays.{TracesAreAccepted, TracesReplay};
 ghost use Rattle.cli_laws.specs.Unique.{OneExecuted, OneGuardedJob, OneRecorded, OneReplayed};
 ghost use Rattle.cli_laws.specs.Unique.{OneAnswered, OneScanned, OneSoaked};
@@ -67,4 +68,11 @@ pub fn one_verified()
 /// PROG, the numbers of the ops, where each bbop has one of these widths and names one of the ops.
 pub fn right_is_executed()
     ensures { RightIsExecuted }
+{}
+
+/// Where an execution ends with 9 past the opening of the chip, one bank is lost, and of the other
+/// rows only those change that the instructions it had begun may change: no row of a source or of
+/// another object than their targets.
+pub fn faults_spare_rows()
+    ensures { FaultsSpareRows }
 {}
