@@ -1,0 +1,4 @@
+pub mod OpenedRows
+pub mod Bits
+pub mod Numbers
+pub mod Written
