@@ -51,6 +51,8 @@ ENTRY = rb"entry \w+ sources=\d bits=\d+ words=\d+ code=\d+( results=2)?"
 COST = rb"\w+ (aap=\d+ ap=\d+ rows=\d+|bad_walk \d+ (index|register|budget))"
 CANONICAL = rb"[ -~]*"
 
+# the statuses of a command that is done, with its own last line
+DONE_WITH = (0, 8, 21)
 LAST = {
     1: rb"usage",
     2: rb"cannot read \S+",
@@ -86,6 +88,10 @@ class Command:
 
 REPORT = rb"(" + DONE + rb"|" + PRINTED + rb"|" + REFUSED + rb")"
 VOTES = rb"vote aap=\d+ flips=\d+"
+SHAPE = rb"width=\d+ count=\d+"
+DIFFERENCE = (rb"geometry \d+ \d+ \d+ to \d+ \d+ \d+|\w+ (only in the (first|second)|" + SHAPE + rb" to " + SHAPE
+              + rb"|differs in \d+ of \d+( \d+:\d+->\d+){1,8}( \.\.)?)")
+DIFFER = rb"differ \d+ of \d+"
 TOTAL = rb"total aap=\d+ ap=\d+ writes=\d+ reads=\d+ refused=\d+"
 COMMANDS = [
     Command(("run", "ops", "prog", "script", "image", "out"), ("ops", "script", "image"), ("prog", "out"),
@@ -106,6 +112,7 @@ COMMANDS = [
             rb"replay aap=\d+ ap=\d+ writes=\d+ reads=\d+"),
     Command(("guard", "ops", "prog", "script", "image", "flips", "out"), ("ops", "script", "triples", "flips"),
             ("prog", "out"), frozenset({0, 2, 4, 6, 7, 8, 11, 17, 18}), rb"(" + REPORT + rb"|" + VOTES + rb")", TOTAL),
+    Command(("diff", "image", "image2"), ("image", "image2"), (), frozenset({0, 2, 7, 11, 21}), DIFFERENCE, DIFFER),
 ]
 
 WORD_OPERATIONS = [operation.name for operation in word_ops()]
@@ -301,7 +308,7 @@ class Maker:
         return self.dice.choice(["0", "1", "8", "64", "128", "129", "007", "-1", "", "x", "18446744073709551616", "1006"])
 
 
-MADE = {"ops": Maker.text, "script": Maker.script, "image": Maker.image, "prog": Maker.program, "query": Maker.query,
+MADE = {"ops": Maker.text, "script": Maker.script, "image": Maker.image, "image2": Maker.image, "prog": Maker.program, "query": Maker.query,
         "flips": Maker.flips, "trace": Maker.trace, "triples": Maker.triples}
 
 
@@ -327,12 +334,12 @@ def form_fault(command, status, said):
     if said and not said.endswith(b"\n"):
         return "the last line has no end"
     lines = said.split(b"\n")[:-1]
-    last = command.last if status in (0, 8) else LAST[status]
+    last = command.last if status in DONE_WITH else LAST[status]
     if not lines:
         return None if status in (0, 3) else "nothing was sent"
     if not re.fullmatch(last, lines[-1]):
         return f"the last line is {lines[-1][:80]!r}"
-    if status in (0, 8):
+    if status in DONE_WITH:
         bad = next((line for line in lines[:-1] if not re.fullmatch(command.lines, line)), None)
         return None if bad is None else f"a line is {bad[:80]!r}"
     return None if len(lines) == 1 else "more than one line was sent"

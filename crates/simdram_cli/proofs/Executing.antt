@@ -15,7 +15,7 @@ use Rattle.simdram_cli.specs.Job.{said_in, tally_by}
 use Rattle.simdram_cli.specs.Exec.{ByText}
 use Rattle.simdram_cli.specs.Exec.{RowsStay, StaysInside}
 use Rattle.simdram_cli.proofs.Migrating.{prog_is}
-use Rattle.simdram_cli.proofs.OpenedRows.{opened_rows}
+use Rattle.image_diff.proofs.OpenedRows.{opened_rows}
 use Rattle.simdram_cli.proofs.Promised.{RowsDone, is_done}
 use Rattle.simdram_cli.proofs.Promised.{replies_exact}
 use Rattle.simdram_cli.proofs.Promises.{commands_counted, job_of, objects_right, report_is}

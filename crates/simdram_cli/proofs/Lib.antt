@@ -19,7 +19,6 @@ pub mod Initial
 pub mod Promised
 pub mod Executing
 pub mod Promising
-pub mod OpenedRows
 pub mod NoWalks
 pub mod Promises
 pub mod Stores
@@ -44,4 +43,5 @@ pub mod Compiled
 pub mod GuardPlanned
 pub mod RunPlanned
 pub mod Verifying
+pub mod Diffing
 pub mod WidthLists

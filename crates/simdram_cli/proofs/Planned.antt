@@ -26,12 +26,12 @@ IsOneOf statuses status = list_any (λ s. s == status) statuses ≡ true
 
 -- the statuses under which some command promises
 abbrev pub IsTold : ℕ → Type 0
-IsTold status = IsOneOf (0 ∷ 8 ∷ 19 ∷ 20 ∷ []) status
+IsTold status = IsOneOf (0 ∷ 8 ∷ 19 ∷ 20 ∷ 21 ∷ []) status
 
 -- a status of the command that is none of them
 abbrev pub IsFailing : Command → ℕ → Type 0
 IsFailing command status = (list_any (λ s. s == status) (facts command).statuses
-    && not (list_any (λ s. s == status) (0 ∷ 8 ∷ 19 ∷ 20 ∷ []))) ≡ true
+    && not (list_any (λ s. s == status) (0 ∷ 8 ∷ 19 ∷ 20 ∷ 21 ∷ []))) ≡ true
 
 -- a plan gives the command's statuses, of which its steps that fail give none that tells
 abbrev pub GivesOwn : Command → Plan → Type 0
@@ -44,9 +44,9 @@ not_both false e f = cc
 -- no status that tells is one of a failure
 pub failing_apart : (command : Command) (status : ℕ) → IsTold status → IsFailing command status → ⊥
 failing_apart command status told f =
-    not_both (list_any (λ s. s == status) (0 ∷ 8 ∷ 19 ∷ 20 ∷ [])) told
+    not_both (list_any (λ s. s == status) (0 ∷ 8 ∷ 19 ∷ 20 ∷ 21 ∷ [])) told
     (and_parts (list_any (λ s. s == status) (facts command).statuses)
-    (not (list_any (λ s. s == status) (0 ∷ 8 ∷ 19 ∷ 20 ∷ []))) f).1
+    (not (list_any (λ s. s == status) (0 ∷ 8 ∷ 19 ∷ 20 ∷ 21 ∷ []))) f).1
 
 pub zero_tells : (status : ℕ) → IsZero status → IsTold status
 zero_tells status e = subst IsTold (sym e) refl
@@ -101,7 +101,7 @@ module _ (command : Command) (old new : World) (status : ℕ) (p : Proved comman
   can_answer = plan_answers (IsFailing command) (CanAnswer command) (CanAnswer command)
       (facts command).plan old new status p.gives (λ s f.
       (and_parts (list_any (λ x. x == s) (facts command).statuses)
-      (not (list_any (λ x. x == s) (0 ∷ 8 ∷ 19 ∷ 20 ∷ []))) f).0) (λ s c. c) ends_by
+      (not (list_any (λ x. x == s) (0 ∷ 8 ∷ 19 ∷ 20 ∷ 21 ∷ []))) f).0) (λ s c. c) ends_by
 
   pub promises : IsApart command → HasNumbers command → Promises command old new status
   promises apart numbers = λ told. p.promised old new status (record {

@@ -23,7 +23,7 @@ use Rattle.simdram_cli.specs.Works.{WorkDone}
 use Rattle.simdram_cli.specs.Headline.{RunJob, replies_of, state_after, ObjectsRight, RowsUntouched}
 use Rattle.simdram_cli.specs.Headline.{CommandsCounted, report_of, IsNoBadWalk}
 use Rattle.simdram_cli.proofs.NoWalks.{all_end, no_walks}
-use Rattle.simdram_cli.proofs.OpenedRows.{opened_rows}
+use Rattle.image_diff.proofs.OpenedRows.{opened_rows}
 
 abbrev pub job_of : List TextOp → List Instruction → Image → Program → RunJob
 job_of t script i program = record { text = t; script = script; image = i; program = program }

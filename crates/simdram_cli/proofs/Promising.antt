@@ -4,6 +4,7 @@ use Rattle.simdram_cli.proofs.Common.{refl, subst, Bor, World}
 use Rattle.std.specs.Prelude.{◌↔◌}
 use Rattle.simdram_cli.specs.declared.words.Command.{Command}
 use Rattle.simdram_cli.specs.declared.words.Command.TheVariants.{Account as AccountOf, Compile, Exec}
+use Rattle.simdram_cli.specs.declared.words.Command.TheVariants.{Diff}
 use Rattle.simdram_cli.specs.declared.words.Command.TheVariants.{Guard, Init, Migrate, Optimise}
 use Rattle.simdram_cli.specs.declared.words.Command.TheVariants.{Replay, Run, Scan, Soak, Trace}
 use Rattle.simdram_cli.specs.declared.words.Command.TheVariants.{Verify}
@@ -12,6 +13,7 @@ use Rattle.simdram_cli.specs.Commands.{OnCommand, Promises, Spares, command_of, 
 use Rattle.simdram_cli.specs.Words.{command_named}
 use Rattle.simdram_cli.proofs.Accounting.{account_proved}
 use Rattle.simdram_cli.proofs.Compiling.{compile_proved}
+use Rattle.simdram_cli.proofs.Diffing.{diff_proved}
 use Rattle.simdram_cli.proofs.ExecPlanned.{exec_proved}
 use Rattle.simdram_cli.proofs.GuardPromised.{guard_proved}
 use Rattle.simdram_cli.proofs.Initial.{init_proved}
@@ -29,6 +31,7 @@ use Rattle.simdram_cli.proofs.Verifying.{verify_proved}
 pub proved : (command : Command) → Proved command
 proved (AccountOf names) = account_proved names
 proved (Compile names) = compile_proved names
+proved (Diff names) = diff_proved names
 proved (Exec names) = exec_proved names
 proved (Guard names) = guard_proved names
 proved (Init names) = init_proved names

@@ -12,11 +12,13 @@ use Rattle.cli_model.specs.Runs.{EndsBy, Runs}
 use Rattle.cli_model.specs.Faultless.{IsSpared, NothingFailed, file_in}
 use Rattle.simdram_cli.specs.declared.words.Command.{Command}
 use Rattle.simdram_cli.specs.declared.words.Command.TheVariants.{Account as AccountOf, Compile}
+use Rattle.simdram_cli.specs.declared.words.Command.TheVariants.{Diff}
 use Rattle.simdram_cli.specs.declared.words.Command.TheVariants.{Exec, Guard, Init, Migrate}
 use Rattle.simdram_cli.specs.declared.words.Command.TheVariants.{Optimise, Replay, Run, Scan}
 use Rattle.simdram_cli.specs.declared.words.Command.TheVariants.{Soak, Trace, Verify}
 use Rattle.simdram_cli.specs.Accounts.{Accounted, HasWidths, account_plan, refused_status}
 use Rattle.simdram_cli.specs.Compile.{Compiled, compile_plan}
+use Rattle.simdram_cli.specs.Diff.{Compared, IsDiffDone, diff_plan}
 use Rattle.simdram_cli.specs.Exec.{Executed, exec_plan}
 use Rattle.simdram_cli.specs.Facts.{AllFiles, Facts, IsZeroOrEight, OfFiles, WholeFolder, keeping}
 use Rattle.simdram_cli.specs.Facts.{plain}
@@ -131,6 +133,13 @@ facts (Optimise names) = record (plain (optimise_plan names)
       apart = all_differ (names.ops.now ∷ names.prog.now ∷ names.new.now ∷ []);
       numbers = (0 < names.width) × (names.width ≤ WIDTH_MAX);
       good = λ file. IsOps (file names.ops.now) × IsProg (file names.prog.now);
+    }
+facts (Diff names) = record (plain (diff_plan names) (0 ∷ 2 ∷ 3 ∷ 7 ∷ 10 ∷ 11 ∷ 21 ∷ [])
+    (OfFiles (Compared names))) {
+      done = 0 ∷ 21 ∷ [];
+      apart = not (bytes_eq names.first.now names.second.now);
+      good = λ file. IsImageFile (file names.first.now) × IsImageFile (file names.second.now);
+      told = IsDiffDone;
     }
 
 -- the numbers of a command are widths, a chip's, or a seed

@@ -26,6 +26,7 @@ pub mod Tracing
 pub mod Replay
 pub mod Guard
 pub mod Verify
+pub mod Diff
 pub mod GoodFiles
 pub mod Facts
 pub mod Commands

@@ -17,6 +17,7 @@ use Rattle.simdram_cli.specs.declared.words.TraceNames.{TraceNames}
 use Rattle.simdram_cli.specs.declared.words.Command.TheVariants.{Replay}
 use Rattle.simdram_cli.specs.declared.words.Command.TheVariants.{Guard}
 use Rattle.simdram_cli.specs.declared.words.Command.TheVariants.{Verify}
+use Rattle.simdram_cli.specs.declared.words.Command.TheVariants.{Diff}
 use Rattle.simdram_cli.specs.declared.words.Command.TheVariants.{Optimise}
 use Rattle.simdram_cli.specs.declared.words.GuardNames.{GuardNames}
 use Rattle.simdram_cli.specs.declared.account.Account.{Account}
@@ -133,7 +134,8 @@ command_on_two verb first second =
     else if bytes_eq verb (codes "migrate")
     then Some (Migrate (record { old = first; new = second }))
     else if bytes_eq verb (codes "scan") then Some (Scan (record { query = first; image = second }))
-    else None
+    else if bytes_eq verb (codes "diff")
+    then Some (Diff (record { first = first; second = second })) else None
 
 -- the command of three words after its own
 abbrev pub command_on_three : List ℕ → (first second third : Bor (List ℕ)) → Option Command
@@ -184,8 +186,8 @@ command_on_six verb first second third fourth fifth sixth =
 -- `compile OPS PROG`, `show OPS`, `migrate OLD NEW`, `cost PROG N`, `list PROG`,
 -- `init BANKS ROWS WORDS OUT`, `soak SEED`, `scan QUERY IMAGE`,
 -- `trace PROG SCRIPT IMAGE OUT TRACE`, `replay TRACE IMAGE OUT`,
--- `guard OPS PROG SCRIPT IMAGE FLIPS OUT`, `verify OPS PROG N` or
--- `optimise OPS PROG N NEW [SEED] [WORK]`
+-- `guard OPS PROG SCRIPT IMAGE FLIPS OUT`, `verify OPS PROG N`,
+-- `optimise OPS PROG N NEW [SEED] [WORK]` or `diff IMAGE IMAGE2`
 abbrev pub command_named : List (Bor (List ℕ)) → Option Command
 command_named (verb ∷ first ∷ second ∷ third ∷ fourth ∷ fifth ∷ sixth ∷ []) =
     command_on_six verb.now first second third fourth fifth sixth

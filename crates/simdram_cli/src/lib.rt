@@ -5,6 +5,7 @@ mod account;
 mod compile;
 mod completion;
 mod counted;
+mod diff;
 mod exec;
 mod guard;
 mod init;
@@ -32,7 +33,7 @@ pub use stop::{Stop, status_of, tell};
 pub use top::{one_job, simdram};
 pub use widths::Widths;
 pub use words::{
-    AccountNames, Command, CompileNames, ExecNames, FLIPS_MAX, GuardNames, IMAGE_MAX, InitNames,
-    MigrateNames, OPS_MAX, PROG_MAX, QUERY_MAX, ReplayNames, RunNames, SCRIPT_MAX, ScanNames,
-    TRACE_MAX, TraceNames, VerifyNames, command_of, limits,
+    AccountNames, Command, CompileNames, DiffNames, ExecNames, FLIPS_MAX, GuardNames, IMAGE_MAX,
+    InitNames, MigrateNames, OPS_MAX, PROG_MAX, QUERY_MAX, ReplayNames, RunNames, SCRIPT_MAX,
+    ScanNames, TRACE_MAX, TraceNames, VerifyNames, command_of, limits,
 };

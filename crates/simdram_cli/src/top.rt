@@ -14,6 +14,7 @@ ghost use Rattle.simdram_cli.specs.Stops.{end_of};
 use crate::account::give_account;
 use crate::compile::compile;
 use crate::completion::{Completion, completion_status};
+use crate::diff::diff;
 use crate::exec::exec;
 use crate::guard::guard;
 use crate::init::init;
@@ -75,6 +76,7 @@ fn do_command<'a, F: Folder, S: Sink, D: Dram>(
         Command::Guard(names) => guard(names, files, out, chip, alloc),
         Command::Verify(names) => verify(names, files, out, alloc),
         Command::Optimise(names) => optimise(names, files, out, alloc),
+        Command::Diff(names) => diff(names, files, out, alloc),
     }
 }
 
@@ -115,8 +117,8 @@ fn dispatch<F: Folder, S: Sink, D: Dram>(
 /// for each operation of OPS whether PROG's entry of its name does it at each width of the list N,
 /// for all values and all contents of the cells and rows at the start; `optimise OPS PROG N NEW`
 /// stores as NEW PROG's program with straight lines at the width N where fewer commands are found
-/// that prove right, with a seed and a number of changes after NEW where they are given. The answer
-/// is the exit status.
+/// that prove right, with a seed and a number of changes after NEW where they are given;
+/// `diff IMAGE IMAGE2` puts which elements of which objects differ. The answer is the exit status.
 pub fn simdram<F: Folder, S: Sink, D: Dram>(
     words: &[&str],
     files: &mut F,

@@ -151,6 +151,13 @@ pub struct OptimiseNames<'a> {
     pub work: u64,
 }
 
+/// The files of `diff`.
+#[derive(Clone, Copy)]
+pub struct DiffNames<'a> {
+    pub first: &'a str,
+    pub second: &'a str,
+}
+
 /// A command, with its words.
 #[derive(Drop)]
 pub enum Command<'a> {
@@ -167,6 +174,7 @@ pub enum Command<'a> {
     Guard(GuardNames<'a>),
     Verify(VerifyNames<'a>),
     Optimise(OptimiseNames<'a>),
+    Diff(DiffNames<'a>),
 }
 
 /// Whether no two of four names are equal.
@@ -404,6 +412,8 @@ fn command_on_two<'a>(verb: &str, first: &'a str, second: &'a str) -> Option<Com
             query: first,
             image: second,
         }))
+    } else if verb == "diff" {
+        Some(Command::Diff(DiffNames { first, second }))
     } else {
         None
     }
@@ -542,6 +552,7 @@ fn is_apart(command: &Command<'_>) -> bool
         Command::Guard(names) => guard_apart(names),
         Command::Verify(names) => names.ops != names.prog,
         Command::Optimise(names) => three_differ(names.ops, names.prog, names.new),
+        Command::Diff(names) => names.first != names.second,
     }
 }
 

@@ -101,6 +101,8 @@ PROGRAM = (
     Command("guard", (OPS, NEW_PROG, SCRIPT, IMAGE, Word("FLIPS", "flips"), OUT),
             "as run, with each object in three copies; majority votes correct the cells that FLIPS inverts",
             "guard mac.ops mac.prog a.bbop a.img a.flips out.img"),
+    Command("diff", (IMAGE, Word("IMAGE2", "image")), "which elements of which objects differ between two images",
+            "diff mac.img out.img"),
     Command("init", (Word("BANKS", "banks"), Word("ROWS", "rows"), Word("WORDS", "words"), OUT),
             "writes an image of zeros without objects: 1 to 16 banks, 64 to 1006 rows, 1 to 1024 words per row", "init 1 64 1 fresh.img"),
     Command("migrate", (Word("OLD", "program"), Word("NEW", "program", True)), "converts a program file to version 2",

@@ -17,10 +17,9 @@ from ..launcher.words import listed
 from . import answers
 from .answer import Answer
 
-# after which status which word of a command is at fault
-AT_FAULT = {4: "OPS", 6: "SCRIPT", 7: "IMAGE", 13: "TRACE", 15: "QUERY"}
-PROGRAMS = ("PROG", "OLD")
-NOT_WRITTEN, PROGRAM, REFUSED, SCAN, GUARD, FLIPS = 3, 5, 8, 16, 17, 18
+# after which status which words of a command may be at fault
+AT_FAULT = {4: ("OPS",), 5: ("PROG", "OLD"), 6: ("SCRIPT",), 7: ("IMAGE", "IMAGE2"), 13: ("TRACE",), 15: ("QUERY",)}
+NOT_WRITTEN, REFUSED, SCAN, GUARD, FLIPS = 3, 8, 16, 17, 18
 NOT_VERIFIED = (19, 20)
 # greater texts and traces are not read again
 LARGEST = 4_000_000
@@ -48,7 +47,7 @@ class Aftermath:
 
     def file(self, name: str) -> tuple[str, bytes]:
         path = self.paths[name]
-        if not os.path.isfile(path) or (os.path.getsize(path) > LARGEST and name != "IMAGE"):
+        if not os.path.isfile(path) or (os.path.getsize(path) > LARGEST and name not in AT_FAULT[7]):
             raise LookupError(path)
         return path, load(path)
 
@@ -59,10 +58,10 @@ class Aftermath:
 
     def found(self, status: int) -> list[Answer]:
         """What is to be said after a status."""
-        name = next(filter(self.paths.__contains__, PROGRAMS)) if status == PROGRAM else AT_FAULT.get(status)
-        if name:
-            kinds = {word.name: word.kind for word in self.command.words}
-            return list(filter(None, [answers.first_fault(kinds[name], *self.file(name))]))
+        if status in AT_FAULT:
+            kinds = {word.name: word.kind for word in self.command.words if word.name in AT_FAULT[status]}
+            faults = (answers.first_fault(kind, *self.file(name)) for name, kind in kinds.items())
+            return list(filter(None, faults))[:1]
         if status == REFUSED:
             prog, data = self.file("PROG")
             entries = {entry.name: entry for entry in Program.read(data, prog).entries}
